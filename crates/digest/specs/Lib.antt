@@ -1,2 +1,4 @@
 pub mod Blocks
 pub mod Hashes
+pub mod Messages
+pub mod Text
