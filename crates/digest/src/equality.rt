@@ -3,11 +3,17 @@ ghost use mathlib.Core.Path.{_≡_};
 ghost use Rattle.std.specs.Orderings.{Decides};
 use crate::value::Digest;
 
+fn same(left: &[u8; 32], right: &[u8; 32]) -> bool
+    ensures { λ r. ⌜ Decides r (now (left .entry) ≡ now (right .entry)) ⌝ }
+{
+    left == right
+}
+
 pub impl PartialEq<Digest> for Digest as DigestPartialEq {
     ghost equals = { λ a b r. Decides r (a .bytes ≡ b .bytes) };
 
     fn eq(&self, other: &Digest) -> bool {
-        self.as_bytes() == other.as_bytes()
+        same(self.as_bytes(), other.as_bytes())
     }
 }
 

@@ -51,6 +51,17 @@ fn joined(tag: u8, left: &Digest, right: &Digest) -> [u8; 65]
     message
 }
 
+// The mask's tag, and behind it the seed, the second in four bytes and the place in two.
+fn masked(seed: &Seed, second: u32, place: u16) -> [u8; 39]
+    ensures { λ r. ⌜ r ≡ mask-message (now (seed .entry)) second place ⌝ }
+{
+    let mut message = [MASK; 39];
+    let at = append(&mut message, 1, seed.as_bytes());
+    let at = append(&mut message, at, &second.to_be_bytes());
+    let _ = append(&mut message, at, &place.to_be_bytes());
+    message
+}
+
 // A record's digest as it enters a round.
 pub fn leaf<H: Hash>(of: &Digest) -> Digest
     ensures { λ r. ⌜ r ≡ H·Hash .digested (leaf-message (now (of .entry))) ⌝ }
@@ -85,9 +96,5 @@ pub fn empty_second<H: Hash>() -> Digest
 pub fn mask<H: Hash>(seed: &Seed, second: u32, place: u16) -> Digest
     ensures { λ r. ⌜ r ≡ H·Hash .digested (mask-message (now (seed .entry)) second place) ⌝ }
 {
-    let mut message = [MASK; 39];
-    let at = append(&mut message, 1, seed.as_bytes());
-    let at = append(&mut message, at, &second.to_be_bytes());
-    let _ = append(&mut message, at, &place.to_be_bytes());
-    of_short::<H>(&message)
+    of_short::<H>(&masked(seed, second, place))
 }
