@@ -1,0 +1,3 @@
+pub mod Words
+pub mod Constants
+pub mod Sha256
