@@ -1,3 +1,5 @@
 pub mod Table
 pub mod Roots
 pub mod Steps
+pub mod SameDigest
+pub mod Ends

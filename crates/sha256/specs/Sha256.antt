@@ -1,12 +1,17 @@
 -- SHA-256 of FIPS 180-4, on lists of bytes.
-use Prim.Native.Nat.{ℕ, zero, suc, _+_, _-_, _*_, _/_, _%_, _^_}
+use Prim.Native.Nat.{ℕ, zero, suc, _+_, _-_, _*_, _/_, _%_, _<_}
+use mathlib.Core.Path.{_≡_, refl}
 use mathlib.Core.List.{List, [], _∷_, _++_, map}
+use native.Mathlib.Omega.{arith}
 use lib.ListN.{length, getD, replicate}
 use Rattle.std.specs.Iters.{counting}
 use Rattle.std.specs.Joined.{joined}
+use Rattle.std.specs.shelf.Lists.{All}
+use Rattle.std.proofs.shelf.Elements.{all-append, all-getD}
 use Rattle.digest.specs.Blocks.{absorbed}
+use Rattle.digest.specs.declared.value.Digest.{Digest}
 use Rattle.sha256.specs.declared.state.State.{State}
-use Rattle.sha256.specs.Words.{_⊞_, Ch, Maj, Σ0, Σ1, σ0, σ1, word, word-bytes}
+use Rattle.sha256.specs.Words.{_⊞_, Ch, Maj, Σ0, Σ1, σ0, σ1, word, word-bytes, eight-bytes}
 use Rattle.sha256.specs.Constants.{K}
 
 -- word t of the schedule W, from the words before it
@@ -75,19 +80,15 @@ initial =
     ; h = 0x5be0cd19
     }
 
--- how many zeros the padding of n bytes has: so many that with the byte before them they reach 56 modulo 64
+-- how many zeros the padding of n bytes has: the fewest with which n, the byte before them and they make 56 modulo 64
 abbrev pub zeros : ℕ → ℕ
 zeros n = (119 - n % 64) % 64
 
--- a number in 8 bytes, highest first
-abbrev pub eight-bytes : ℕ → List ℕ
-eight-bytes x = word-bytes (x / 2 ^ 32) ++ word-bytes x
+-- what stands behind a message of n bytes: the bit 1, zeros, and the message's length in bits
+unfoldable pub padding : ℕ → List ℕ
+padding n = 0x80 ∷ (replicate (zeros n) 0 ++ eight-bytes (8 * n))
 
--- what stands behind a message of n bytes: one bit, zeros, and the message's length in bits
-abbrev pub padding : ℕ → List ℕ
-padding n = 0x80 ∷ replicate (zeros n) 0 ++ eight-bytes (8 * n)
-
-abbrev pub padded : List ℕ → List ℕ
+unfoldable pub padded : List ℕ → List ℕ
 padded message = message ++ padding (length message)
 
 -- the state after all blocks of the padded message
@@ -98,5 +99,27 @@ final message = absorbed compressed initial 64 (padded message) (length (padded 
 abbrev pub state-bytes : State → List ℕ
 state-bytes s = joined word-bytes (s .a ∷ s .b ∷ s .c ∷ s .d ∷ s .e ∷ s .f ∷ s .g ∷ s .h ∷ [])
 
+-- the hash of a message, as bytes
 unfoldable pub sha256-bytes : List ℕ → List ℕ
 sha256-bytes message = state-bytes (final message)
+
+words-small : (xs : List ℕ) → All (λ b. b < 256) (joined word-bytes xs)
+words-small [] = tt
+words-small (x ∷ xs) =
+    all-append (λ b. b < 256) (word-bytes x) (joined word-bytes xs) (omega arith, (omega arith, (omega arith, (omega arith, tt)))) (words-small xs)
+
+bytes-small : (s : State) (k : ℕ) → k < 32 → getD (state-bytes s) k 0 < 256
+bytes-small s k h =
+    all-getD (λ b. b < 256) (state-bytes s) k 0 h (words-small (s .a ∷ s .b ∷ s .c ∷ s .d ∷ s .e ∷ s .f ∷ s .g ∷ s .h ∷ []))
+
+pub sha256-length : (message : List ℕ) → length (sha256-bytes message) ≡ 32
+unfolding sha256-bytes
+sha256-length message = refl
+
+pub sha256-small : (message : List ℕ) (k : ℕ) → k < 32 → getD (sha256-bytes message) k 0 < 256
+unfolding sha256-bytes
+sha256-small message k h = bytes-small (final message) k h
+
+-- the same, as a digest
+unfoldable pub sha256 : List ℕ → Digest
+sha256 message = record { bytes = sha256-bytes message; whole = sha256-length message; fits = sha256-small message }

@@ -4,7 +4,7 @@ use mathlib.Core.List.{List, [], _∷_}
 use lib.Bits.{bitAnd, bitOr, bitXor}
 use lib.ListN.{getD}
 
-infixl 20 _⊞_
+infixl 65 _⊞_
 
 -- the sum of two words, modulo 2 ^ 32
 abbrev pub _⊞_ : ℕ → ℕ → ℕ
@@ -48,3 +48,9 @@ word block t =
 -- the four bytes of a word, highest first
 abbrev pub word-bytes : ℕ → List ℕ
 word-bytes x = (x / 2 ^ 24 % 256) ∷ (x / 2 ^ 16 % 256) ∷ (x / 2 ^ 8 % 256) ∷ (x % 256) ∷ []
+
+-- the eight bytes of a number below 2 ^ 64, highest first
+abbrev pub eight-bytes : ℕ → List ℕ
+eight-bytes x =
+    (x / 2 ^ 56 % 256) ∷ (x / 2 ^ 48 % 256) ∷ (x / 2 ^ 40 % 256) ∷ (x / 2 ^ 32 % 256)
+    ∷ (x / 2 ^ 24 % 256) ∷ (x / 2 ^ 16 % 256) ∷ (x / 2 ^ 8 % 256) ∷ (x % 256) ∷ []

@@ -1,0 +1,5 @@
+use Rattle.sha256.proofs.Ends.{marked-is}
+use Rattle.sha256.proofs.padding.marked.Needs as need
+
+pub returns : need.returns
+returns c = marked-is (c .args .rest .now) (c .copy-from-slice .last .self) (c .pre) (c .copy-from-slice .ensures .after)
