@@ -64,11 +64,7 @@ tail-sized n =
     cond-both (ltb (n % 64) 56) 1 2 (λ b. n % 64 + 9 + zeros n ≡ 64 * b)
     (λ e. omega (arith, ltb-true (n % 64) 56 e)) (λ e. omega (arith, ltb-false (n % 64) 56 e))
 
-pub tail-one : (n : ℕ) → 1 ≤ tail-blocks n
-unfolding tail-blocks
-tail-one n = cond-both (ltb (n % 64) 56) 1 2 (λ b. 1 ≤ b) (λ e. omega arith) (λ e. omega arith)
-
-pub tail-two : (n : ℕ) → tail-blocks n ≤ 2
+tail-two : (n : ℕ) → tail-blocks n ≤ 2
 unfolding tail-blocks
 tail-two n = cond-both (ltb (n % 64) 56) 1 2 (λ b. b ≤ 2) (λ e. omega arith) (λ e. omega arith)
 

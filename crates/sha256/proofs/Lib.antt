@@ -3,3 +3,4 @@ pub mod Roots
 pub mod Steps
 pub mod SameDigest
 pub mod Ends
+pub mod Absorbing

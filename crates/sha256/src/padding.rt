@@ -8,7 +8,8 @@ ghost use Rattle.sha256.specs.Words.{eight-bytes};
 
 // How many blocks the end of a message of `len` bytes takes.
 pub(crate) fn blocks(len: usize) -> usize
-    ensures { λ r. ⌜ r ≡ tail-blocks len ⌝ }
+    ensures count { λ r. ⌜ r ≡ tail-blocks len ⌝ }
+    ensures few { λ r. ⌜ (1 ≤ r) × (r ≤ 2) ⌝ }
 {
     if len % 64 < 56 { 1 } else { 2 }
 }
