@@ -49,13 +49,13 @@ pub tail-more : (message last : List ℕ) (i : ℕ) (s : State) → i < tail-blo
 tail-more message last i s h el e =
     let n = length message in
     let size : length (tail message) ≡ 64 * tail-blocks n =
-      length-drop (n / 64 * 64) (padded message) ∙ omega (arith, length-padded message, tail-sized n) in
+    length-drop (n / 64 * 64) (padded message) ∙ omega (arith, length-padded message, tail-sized n) in
     let room : i * 64 + 64 ≤ length (tail message) = omega arith in
     let place : n / 64 * 64 + i * 64 ≡ (n / 64 + i) * 64 = omega arith in
     let next : n / 64 + i + 1 ≡ n / 64 + (i + 1) = omega arith in
     let here : block 64 last i ≡ block 64 (padded message) (n / 64 + i) =
-      ap (λ (l : List ℕ). block 64 l i) el ∙ block-front 64 (tail message) (replicate (128 - 64 * tail-blocks n) 0) i room
-      ∙ ap (take 64) (drop-drop (i * 64) (n / 64 * 64) (padded message)) ∙ ap (λ (m : ℕ). take 64 (drop m (padded message))) place in
+    ap (λ (l : List ℕ). block 64 l i) el ∙ block-front 64 (tail message) (replicate (128 - 64 * tail-blocks n) 0) i room
+    ∙ ap (take 64) (drop-drop (i * 64) (n / 64 * 64) (padded message)) ∙ ap (λ (m : ℕ). take 64 (drop m (padded message))) place in
     ap (compressed s) (part-block last i ∙ here)
     ∙ ap (λ (z : State). compressed z (block 64 (padded message) (n / 64 + i))) e
     ∙ sym (absorbed-more compressed initial 64 (padded message) (n / 64 + i))

@@ -12,15 +12,12 @@ use Rattle.sha256.specs.Words.{eight-bytes}
 use Rattle.sha256.specs.Sha256.{zeros, padding, padded}
 use Rattle.sha256.specs.Tail.{tail-blocks, tail}
 
--- a byte at the end of what a copy wrote into 128 zeros
-pub marked-is : (rest ys : List ℕ) → length rest < 64 → ys ≡ rest
-    → set (ys ++ postOf 0 (length rest - 0) (replicate 128 0)) (length rest) 0x80 ≡ rest ++ 0x80 ∷ replicate (127 - length rest) 0
-marked-is rest ys h e =
-    let left : 128 - (length rest - 0) ≡ suc (127 - length rest) = omega arith in
-    ap (λ (l : List ℕ). set (l ++ drop (length rest - 0) (replicate 128 0)) (length rest) 0x80) e
-    ∙ ap (λ (l : List ℕ). set (rest ++ l) (length rest) 0x80) (drop-replicate (length rest - 0) 128 0)
-    ∙ ap (λ (n : ℕ). set (rest ++ replicate n 0) (length rest) 0x80) left
-    ∙ set-at rest 0 (replicate (127 - length rest) 0) 0x80 (length rest) refl
+-- a byte at the end of what a copy wrote into n zeros
+pub marked-is : (n : ℕ) (rest ys : List ℕ) → length rest < n → ys ≡ rest
+    → set (ys ++ postOf 0 (length rest - 0) (replicate n 0)) (length rest) 0x80 ≡ rest ++ 0x80 ∷ replicate (n - 1 - length rest) 0
+marked-is n rest ys h e =
+    let left : n - (length rest - 0) ≡ suc (n - 1 - length rest) = omega arith in
+    rw (e, drop-replicate, left) (set-at rest 0 (replicate (n - 1 - length rest) 0) 0x80 (length rest) refl)
 
 -- eight bytes over the zeros behind the z that stay; q zeros are left
 module _ (rest eight : List ℕ) (z q : ℕ) where
@@ -44,8 +41,8 @@ module _ (rest eight : List ℕ) (z q : ℕ) where
       let eq : 8 + q - 8 ≡ q = omega arith in
       let t : take n filled ≡ front = ap (take n) filled-parts ∙ take-at front (replicate (8 + q) 0) n size in
       let d : drop (n + 8) filled ≡ replicate q 0 =
-        sym (drop-drop 8 n filled) ∙ ap (λ (l : List ℕ). drop 8 (drop n l)) filled-parts ∙ ap (drop 8) (drop-at front (replicate (8 + q) 0) n size)
-        ∙ drop-replicate 8 (8 + q) 0 ∙ ap (λ (m : ℕ). replicate m 0) eq in
+      sym (drop-drop 8 n filled) ∙ ap (λ (l : List ℕ). drop 8 (drop n l)) filled-parts ∙ ap (drop 8) (drop-at front (replicate (8 + q) 0) n size)
+      ∙ drop-replicate 8 (8 + q) 0 ∙ ap (λ (m : ℕ). replicate m 0) eq in
       rw (t, d) (simp append-assoc)
 
 -- a part of an array, written over from `end - 8` to `end`

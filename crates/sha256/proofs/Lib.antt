@@ -4,3 +4,4 @@ pub mod Steps
 pub mod SameDigest
 pub mod Ends
 pub mod Absorbing
+pub mod Choice

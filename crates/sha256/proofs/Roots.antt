@@ -26,10 +26,11 @@ first-bits p k t =
     let low = leb (root p k ^ 3) (p * 2 ^ 96) in
     let high = ltb (p * 2 ^ 96) ((root p k + 1) ^ 3) in
     let same = eqb k (root p k % 2 ^ 32) in
-    let rest = both-right low (both high same) t in
-    (root p k
-    , (leb→le (root p k ^ 3) (p * 2 ^ 96) (both-left low (both high same) t), ltb→lt (p * 2 ^ 96) ((root p k + 1) ^ 3) (both-left high same rest))
-    , eqb→eq k (root p k % 2 ^ 32) (both-right high same rest))
+    let rest = both-right low (both high same) t in (
+      root p k,
+      (leb→le (root p k ^ 3) (p * 2 ^ 96) (both-left low (both high same) t), ltb→lt (p * 2 ^ 96) ((root p k + 1) ^ 3) (both-left high same rest)),
+      eqb→eq k (root p k % 2 ^ 32) (both-right high same rest),
+    )
 
 passed : T (every right primes K)
 unfolding right root whole primes K

@@ -37,7 +37,7 @@ schedule-more block w t x low h e p =
     let back : t ≡ 16 + (t - 16) = omega arith in
     let one : suc (t - 16) ≡ t + 1 - 16 = omega arith in
     let made : x ≡ next-word (schedule block (t - 16)) (16 + (t - 16)) =
-      p ∙ sym (next-word-take w t low) ∙ ap (λ (y : List ℕ). next-word y t) e ∙ ap (next-word (schedule block (t - 16))) back in
+    p ∙ sym (next-word-take w t low) ∙ ap (λ (y : List ℕ). next-word y t) e ∙ ap (next-word (schedule block (t - 16))) back in
     take-more-set w t x h ∙ ap (λ (y : List ℕ). y ++ x ∷ []) e ∙ ap (λ (y : ℕ). schedule block (t - 16) ++ y ∷ []) made
     ∙ ap (schedule block) one
 

@@ -32,15 +32,15 @@ T₂ s = Σ0 (s .a) ⊞ Maj (s .a) (s .b) (s .c)
 -- round t, with the schedule W
 unfoldable pub round : List ℕ → State → ℕ → State
 round W s t =
-    record
-    { a = T₁ s (getD K t 0) (getD W t 0) ⊞ T₂ s
-    ; b = s .a
-    ; c = s .b
-    ; d = s .c
-    ; e = s .d ⊞ T₁ s (getD K t 0) (getD W t 0)
-    ; f = s .e
-    ; g = s .f
-    ; h = s .g
+    record {
+      a = T₁ s (getD K t 0) (getD W t 0) ⊞ T₂ s;
+      b = s .a;
+      c = s .b;
+      d = s .c;
+      e = s .d ⊞ T₁ s (getD K t 0) (getD W t 0);
+      f = s .e;
+      g = s .f;
+      h = s .g;
     }
 
 -- n rounds, from round t on
@@ -51,15 +51,15 @@ rounds W s t (suc n) = round W (rounds W s t n) (t + n)
 -- the words of two states, added
 unfoldable pub sums : State → State → State
 sums s z =
-    record
-    { a = s .a ⊞ z .a
-    ; b = s .b ⊞ z .b
-    ; c = s .c ⊞ z .c
-    ; d = s .d ⊞ z .d
-    ; e = s .e ⊞ z .e
-    ; f = s .f ⊞ z .f
-    ; g = s .g ⊞ z .g
-    ; h = s .h ⊞ z .h
+    record {
+      a = s .a ⊞ z .a;
+      b = s .b ⊞ z .b;
+      c = s .c ⊞ z .c;
+      d = s .d ⊞ z .d;
+      e = s .e ⊞ z .e;
+      f = s .f ⊞ z .f;
+      g = s .g ⊞ z .g;
+      h = s .h ⊞ z .h;
     }
 
 -- the state after one block more
@@ -69,15 +69,15 @@ compressed s block = sums s (rounds (schedule block 48) s 0 64)
 -- the state before the first block
 abbrev pub initial : State
 initial =
-    record
-    { a = 0x6a09e667
-    ; b = 0xbb67ae85
-    ; c = 0x3c6ef372
-    ; d = 0xa54ff53a
-    ; e = 0x510e527f
-    ; f = 0x9b05688c
-    ; g = 0x1f83d9ab
-    ; h = 0x5be0cd19
+    record {
+      a = 0x6a09e667;
+      b = 0xbb67ae85;
+      c = 0x3c6ef372;
+      d = 0xa54ff53a;
+      e = 0x510e527f;
+      f = 0x9b05688c;
+      g = 0x1f83d9ab;
+      h = 0x5be0cd19;
     }
 
 -- how many zeros the padding of n bytes has: the fewest with which n, the byte before them and they make 56 modulo 64

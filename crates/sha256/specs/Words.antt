@@ -5,7 +5,6 @@ use lib.Bits.{bitAnd, bitOr, bitXor}
 use lib.ListN.{getD}
 
 infixl 65 _⊞_
-
 -- the sum of two words, modulo 2 ^ 32
 abbrev pub _⊞_ : ℕ → ℕ → ℕ
 x ⊞ y = (x + y) % 2 ^ 32

@@ -5,15 +5,19 @@ ghost use mathlib.Core.Path.{_≡_};
 ghost use Rattle.sha256.specs.Sha256.{compressed, round as step, rounds, schedule as words, sums};
 use crate::constants;
 use crate::state::State;
-use crate::words::{big_sigma0, big_sigma1, choose, majority, small_sigma0, small_sigma1};
+use crate::words::big_sigma0;
+use crate::words::big_sigma1;
+use crate::words::choose;
+use crate::words::majority;
+use crate::words::small_sigma0;
+use crate::words::small_sigma1;
 
 // Round t, with the schedule w.
 fn round(s: State, w: &[u32; 64], t: usize) -> State
     requires { ⌜ t + 1 ≤ 64 ⌝ }
     ensures { λ r. ⌜ r ≡ step (now (w .entry)) s t ⌝ }
 {
-    let t1 = s
-        .h
+    let t1 = s.h
         .wrapping_add(big_sigma1(s.e))
         .wrapping_add(choose(s.e, s.f, s.g))
         .wrapping_add(constants::of_round(t))

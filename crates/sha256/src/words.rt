@@ -5,7 +5,7 @@ ghost use Rattle.sha256.specs.Words.{Ch, Maj, Σ0, Σ1, σ0, σ1};
 pub(crate) fn choose(x: u32, y: u32, z: u32) -> u32
     ensures { λ r. ⌜ r ≡ Ch x y z ⌝ }
 {
-    (x & y) ^ (!x & z)
+    z ^ (x & (y ^ z))
 }
 
 pub(crate) fn majority(x: u32, y: u32, z: u32) -> u32

@@ -8,10 +8,11 @@ use Rattle.sha256.proofs.Steps.{block-more, schedule-more}
 use Rattle.sha256.proofs.compression.schedule.Needs as need
 
 pub loop-t-again : need.loop-t-again
-loop-t-again c =
-    (length-set (c .loop-t .w) (c .loop-t .t) (c .from-be-bytes .result) ∙ c .loop-t .inv .0
-    , block-more (c .args .block .now) (c .loop-t .w) (c .loop-t .t) (c .from-be-bytes .result) (omega arith) (c .loop-t .inv .1)
-      (c .from-be-bytes .ensures))
+loop-t-again c = (
+  length-set (c .loop-t .w) (c .loop-t .t) (c .from-be-bytes .result) ∙ c .loop-t .inv .0,
+  block-more (c .args .block .now) (c .loop-t .w) (c .loop-t .t) (c .from-be-bytes .result) (omega arith) (c .loop-t .inv .1)
+      (c .from-be-bytes .ensures),
+)
 
 pub loop-t-2-holds : need.loop-t-2-holds
 unfolding schedule
@@ -21,9 +22,10 @@ loop-t-2-holds c =
 
 pub loop-t-2-again : need.loop-t-2-again
 unfolding next-word
-loop-t-2-again c =
-    (length-set (c .loop-t-2 .w) (c .loop-t-2 .t) _ ∙ c .loop-t-2 .inv .0
-    , schedule-more (c .args .block .now) (c .loop-t-2 .w) (c .loop-t-2 .t) _ (omega arith) (omega arith) (c .loop-t-2 .inv .1) (cc))
+loop-t-2-again c = (
+  length-set (c .loop-t-2 .w) (c .loop-t-2 .t) _ ∙ c .loop-t-2 .inv .0,
+  schedule-more (c .args .block .now) (c .loop-t-2 .w) (c .loop-t-2 .t) _ (omega arith) (omega arith) (c .loop-t-2 .inv .1) (cc),
+)
 
 pub returns : need.returns
 returns c =

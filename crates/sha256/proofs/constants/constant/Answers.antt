@@ -14,9 +14,9 @@ entries = refl
 
 pub returns-then-t-lt64 : need.returns-then-t-lt64
 returns-then-t-lt64 c =
-    record
-    { value = ap Some (c .of-round .ensures) ∙ sym (nth-getD K (c .args .t) 0 (rw entries (c .if-t-lt64 .taken)))
-    ; rule = rule
+    record {
+      value = ap Some (c .of-round .ensures) ∙ sym (nth-getD K (c .args .t) 0 (rw entries (c .if-t-lt64 .taken)));
+      rule = rule;
     }
 
 pub returns-else-t-lt64 : need.returns-else-t-lt64

@@ -19,7 +19,7 @@ pub loop-i-2-again : need.loop-i-2-again
 loop-i-2-again c =
     c .compress-state-in-loop-i-2 .ensures
     ∙ tail-more (c .args .message .now) (c .tail-last .result) (c .loop-i-2 .i) (c .loop-i-2 .state) (omega arith) (c .tail-last .ensures)
-      (c .loop-i-2 .inv)
+    (c .loop-i-2 .inv)
 
 pub returns : need.returns
 unfolding sha256-bytes

@@ -9,5 +9,5 @@ pub returns : need.returns
 returns c =
     c .sealed .ensures
     ∙ tail-is (c .args .message .now) (take (length (c .args .message .now) - length (c .args .message .now) / 64 * 64) (drop (length (c .args .message .now) / 64 * 64) (c .args .message .now)))
-      (c .marked .result) (c .blocks-2 .result)
-      (take-rest (c .args .message .now) (length (c .args .message .now) / 64 * 64)) (c .blocks-2 .ensures .count) (c .marked .ensures)
+    (c .marked .result) (c .blocks-2 .result)
+    (take-rest (c .args .message .now) (length (c .args .message .now) / 64 * 64)) (c .blocks-2 .ensures .count) (c .marked .ensures)

@@ -1,7 +1,6 @@
-use mathlib.Core.Path.{refl}
-use Rattle.sha256.specs.Words.{Ch}
+use borrow.Author.Needs.{needs}
+use Rattle.sha256.proofs.Choice.{choice}
 use Rattle.sha256.proofs.words.choose.Needs as need
 
 pub returns : need.returns
-unfolding Ch
-returns c = refl
+returns c = choice (c .args .x) (c .args .y) (c .args .z) (search needs) (search needs) (search needs)
