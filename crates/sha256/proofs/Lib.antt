@@ -5,3 +5,4 @@ pub mod SameDigest
 pub mod Ends
 pub mod Absorbing
 pub mod Choice
+pub mod Written
