@@ -1,0 +1,8 @@
+pub mod Table
+pub mod Roots
+pub mod Steps
+pub mod SameDigest
+pub mod Ends
+pub mod Absorbing
+pub mod Choice
+pub mod Written

@@ -1,0 +1,4 @@
+pub mod Words
+pub mod Constants
+pub mod Sha256
+pub mod Tail
