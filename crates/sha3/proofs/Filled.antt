@@ -2,9 +2,10 @@
 use Prim.Native.Nat.{ℕ, _+_, _<_, _≤_}
 use mathlib.Core.Path.{_≡_, sym, subst, _∙_}
 use mathlib.Core.List.{List}
+use mathlib.Core.Logic.{_≢_}
 use native.Mathlib.Omega.{arith}
 use lib.ListN.{length, getD, set, length-set}
-use Rattle.std.proofs.shelf.Lists.{ext-getD}
+use Rattle.std.proofs.shelf.Lists.{ext-getD, getD-set-other}
 use Rattle.std.proofs.shelf.Edits.{fill-by-more}
 
 -- the list xs has n places, and below place i it holds what `whole` holds
@@ -21,3 +22,10 @@ filled-more n whole xs i j v inv h next here =
 
 pub filled-all : (n : ℕ) (whole xs : List ℕ) (i : ℕ) → length whole ≡ n → Filled n whole xs i → n ≤ i → xs ≡ whole
 filled-all n whole xs i e inv full = ext-getD 0 xs whole (inv .0 ∙ sym e) (λ k l. inv .1 k (omega arith))
+
+-- what is not written yet is as it was
+pub unwritten-more : (a xs : List ℕ) (i v : ℕ) → ((k : ℕ) → i ≤ k → getD xs k 0 ≡ getD a k 0)
+    → (k : ℕ) → i + 1 ≤ k → getD (set xs i v) k 0 ≡ getD a k 0
+unwritten-more a xs i v same k h =
+    let other : k ≢ i = omega arith in
+    getD-set-other xs i k v 0 other ∙ same k (omega arith)

@@ -2,11 +2,12 @@
 use Prim.Native.Nat.{ℕ, _+_, _*_, _/_, _%_, _<_}
 use mathlib.Core.Path.{_≡_, refl, sym, ap, _∙_}
 use mathlib.Core.List.{List}
+use native.Mathlib.Numerals.{add-one}
 use native.Mathlib.Omega.{arith}
 use lib.Bits.{bitAnd, bitXor}
 use lib.ListN.{length, getD}
 use Rattle.std.proofs.shelf.Counted.{getD-map-counting, length-map-counting}
-use Rattle.sha3.specs.Keccak.{place, lane, lanes, rotl, complement, parity-of, effect-of, parities, effects, offsets, θ, ρ, π, χ}
+use Rattle.sha3.specs.Keccak.{place, lane, lanes, rotl, complement, parity-of, effect-of, parities, effects, offsets, θ, ρ, π, χ, Rnd, rounds}
 
 -- the lane of a column and a row
 pub lane-at : (a : List ℕ) (x y i : ℕ) → 5 * (y % 5) + x % 5 ≡ i → lane a x y ≡ getD a i 0
@@ -92,3 +93,7 @@ unfolding χ
     let e1 : lane a (x + 1) y ≡ getD a (5 * y + (x + 1) % 5) 0 = lane-at a (x + 1) y (5 * y + (x + 1) % 5) (omega arith) in
     let e2 : lane a (x + 2) y ≡ getD a (5 * y + (x + 2) % 5) 0 = lane-at a (x + 2) y (5 * y + (x + 2) % 5) (omega arith) in
     getD-lanes _ x y hx hy ∙ (cc)
+
+pub rounds-more : (k : ℕ) (a : List ℕ) → rounds (k + 1) a ≡ Rnd k (rounds k a)
+unfolding rounds
+rounds-more k a = ap (λ n. rounds n a) (add-one k)

@@ -43,9 +43,7 @@ fn last_block(rest: &[u8]) -> [u8; 136]
     ensures { λ r. ⌜ r ≡ now (rest .entry) ++ padding (length (now (rest .entry))) ⌝ }
 {
     let mut block = [0; 136];
-    for i in 0..rest.len() {
-        block[i] = rest[i];
-    }
+    block[0..rest.len()].copy_from_slice(rest);
     block[rest.len()] = 0x06;
     block[RATE - 1] |= 0x80;
     block
