@@ -1,0 +1,10 @@
+use Prim.Native.Nat.{_+_, _*_}
+use Rattle.sha3.specs.Keccak.{θ}
+use Rattle.sha3.proofs.Filled.{Filled}
+use Rattle.sha3.proofs.permutation.theta.Given as given
+
+abbrev pub Inv-loop-y : given.InvT-loop-y
+Inv-loop-y l = Filled 25 (θ (l .a)) (l .b) (5 * l .y)
+
+abbrev pub Inv-loop-x : given.InvT-loop-x
+Inv-loop-x l = Filled 25 (θ (l .a)) (l .b) (5 * l .y + l .x)

@@ -1,0 +1,7 @@
+use mathlib.Core.Path.{_≡_}
+use Rattle.sha3.specs.Sha3.{absorb}
+use Rattle.sha3.proofs.sponge.take_in.Needs as need
+
+pub returns : need.returns
+unfolding absorb
+returns c = cc

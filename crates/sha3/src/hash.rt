@@ -1,0 +1,32 @@
+// SHA3-256 as a hash.
+ghost use Rattle.sha3.specs.Sha3.{sha3-256};
+use crate::sponge::soak;
+use crate::sponge::squeeze;
+use digest::Digest;
+use digest::Hash;
+use digest::Refusal;
+
+#[derive(Clone, Copy)]
+pub struct Sha3;
+
+// The longest message that is taken, in bytes.
+const LONGEST: usize = 65536;
+
+pub impl Hash for Sha3 as Sha3Hash {
+    const NUMBER: u8 = 2;
+
+    ghost digested = { sha3-256 };
+
+    ghost numbered = { 2 };
+
+    fn code() -> u8 {
+        Self::NUMBER
+    }
+
+    fn digest(message: &[u8]) -> Result<Digest, Refusal> {
+        if message.len() > LONGEST {
+            return Err(Refusal::TooLong);
+        }
+        Ok(Digest::of(squeeze(&soak(message))))
+    }
+}
