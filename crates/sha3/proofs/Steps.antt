@@ -7,7 +7,7 @@ use native.Mathlib.Omega.{arith}
 use lib.Bits.{bitAnd, bitXor}
 use lib.ListN.{length, getD}
 use Rattle.std.proofs.shelf.Counted.{getD-map-counting, length-map-counting}
-use Rattle.sha3.specs.Keccak.{place, lane, lanes, rotl, complement, parity-of, effect-of, parities, effects, offsets, θ, ρ, π, χ, Rnd, rounds}
+use Rattle.sha3.specs.Keccak.{place, lane, lanes, rotl, complement, parity, effect, parities, effects, offsets, θ, ρ, π, χ, Rnd, rounds}
 
 -- the lane of a column and a row
 pub lane-at : (a : List ℕ) (x y i : ℕ) → 5 * (y % 5) + x % 5 ≡ i → lane a x y ≡ getD a i 0
@@ -33,27 +33,27 @@ lane-lanes f x y = lane-at (lanes f) x y (5 * (y % 5) + x % 5) refl ∙ getD-lan
 
 pub length-parities : (a : List ℕ) → length (parities a) ≡ 5
 unfolding parities
-length-parities a = length-map-counting (parity-of a) 0 5
+length-parities a = length-map-counting (parity a) 0 5
 
 pub parities-at : (a : List ℕ) (x : ℕ) → x < 5
     → getD (parities a) x 0 ≡ bitXor (bitXor (bitXor (bitXor (getD a x 0) (getD a (x + 5) 0)) (getD a (x + 10) 0)) (getD a (x + 15) 0)) (getD a (x + 20) 0)
-unfolding parities parity-of
+unfolding parities parity
 parities-at a x h =
     let e0 : lane a x 0 ≡ getD a x 0 = lane-at a x 0 x (omega arith) in
     let e1 : lane a x 1 ≡ getD a (x + 5) 0 = lane-at a x 1 (x + 5) (omega arith) in
     let e2 : lane a x 2 ≡ getD a (x + 10) 0 = lane-at a x 2 (x + 10) (omega arith) in
     let e3 : lane a x 3 ≡ getD a (x + 15) 0 = lane-at a x 3 (x + 15) (omega arith) in
     let e4 : lane a x 4 ≡ getD a (x + 20) 0 = lane-at a x 4 (x + 20) (omega arith) in
-    getD-map-counting (parity-of a) 0 5 x x 0 h (omega arith) ∙ (cc)
+    getD-map-counting (parity a) 0 5 x x 0 h (omega arith) ∙ (cc)
 
 pub length-effects : (c : List ℕ) → length (effects c) ≡ 5
 unfolding effects
-length-effects c = length-map-counting (effect-of c) 0 5
+length-effects c = length-map-counting (effect c) 0 5
 
 pub effects-at : (c : List ℕ) (x : ℕ) → x < 5
     → getD (effects c) x 0 ≡ bitXor (getD c ((x + 4) % 5) 0) (rotl (getD c ((x + 1) % 5) 0) 1)
-unfolding effects effect-of
-effects-at c x h = getD-map-counting (effect-of c) 0 5 x x 0 h (omega arith)
+unfolding effects effect
+effects-at c x h = getD-map-counting (effect c) 0 5 x x 0 h (omega arith)
 
 pub length-θ : (a : List ℕ) → length (θ a) ≡ 25
 unfolding θ

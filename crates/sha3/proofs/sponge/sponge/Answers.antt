@@ -3,20 +3,21 @@ use mathlib.Core.Path.{_≡_, refl}
 use native.Mathlib.Omega.{arith}
 use lib.ListN.{length, take, drop}
 use Rattle.std.proofs.shelf.Lists.{take-rest}
-use Rattle.sha3.specs.Sha3.{sponge}
-use Rattle.sha3.proofs.Soaked.{soaked-more, soaked-all}
-use Rattle.sha3.proofs.sponge.soak.Needs as need
+use Rattle.sha3.specs.Sha3.{blocks, sponge}
+use Rattle.sha3.proofs.Absorbed.{absorbed-front, absorbed-last}
+use Rattle.sha3.proofs.sponge.sponge.Needs as need
 
 pub loop-n-holds : need.loop-n-holds
 unfolding sponge
 loop-n-holds c = refl
 
 pub loop-n-again : need.loop-n-again
-loop-n-again c = let e = soaked-more (c .args .message .now) (c .loop-n .n) (omega arith) in cc
+loop-n-again c = let e = absorbed-front (c .args .message .now) (c .loop-n .n) (omega arith) in cc
 
 pub returns : need.returns
+unfolding blocks
 returns c =
     let message = c .args .message .now in
     let all : c .loop-n .n ≡ length message / 136 = omega arith in
-    let e = soaked-all message _ (take-rest message (length message / 136 * 136)) in
+    let e = absorbed-last message _ (take-rest message (length message / 136 * 136)) in
     cc

@@ -3,7 +3,7 @@ use native.Mathlib.Omega.{arith}
 use Rattle.sha3.specs.Keccak.{rotl}
 use Rattle.sha3.proofs.Filled.{filled-more, filled-all}
 use Rattle.sha3.proofs.Steps.{length-effects, effects-at}
-use Rattle.sha3.proofs.permutation.effect.Needs as need
+use Rattle.sha3.proofs.permutation.effects.Needs as need
 
 pub loop-x-again : need.loop-x-again
 unfolding rotl
