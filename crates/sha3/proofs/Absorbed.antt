@@ -4,7 +4,6 @@ use mathlib.Core.List.{List, _++_}
 use mathlib.Core.Path.{_≡_, sym, ap, _∙_}
 use native.Mathlib.Omega.{arith}
 use lib.ListN.{length, take, drop, replicate}
-use Rattle.std.proofs.shelf.Lists.{take-rest}
 use Rattle.digest.specs.Blocks.{block}
 use Rattle.digest.proofs.Blocks.{absorbed-more, block-front}
 use Rattle.sha3.specs.Sha3.{padding, padded, absorb, sponge}

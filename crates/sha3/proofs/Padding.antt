@@ -5,11 +5,11 @@ use mathlib.Core.List.{List, _∷_, _++_}
 use native.Mathlib.Nat.{sub-zero}
 use native.Mathlib.Omega.{arith}
 use lib.Bits.{bitOr}
-use lib.ListN.{length, getD, set, take, drop, replicate}
+use lib.ListN.{length, getD, set, drop, replicate}
 use Rattle.std.proofs.shelf.Lists.{getD-append-right, set-append-right, length-append, length-set, length-drop, length-replicate, drop-replicate, take-all}
 use Rattle.digest.specs.Blocks.{block}
 use Rattle.digest.proofs.Blocks.{block-back}
-use Rattle.sha3.specs.Sha3.{gap, opened, padding, padded}
+use Rattle.sha3.specs.Sha3.{gap, opened, padding, padded, blocks}
 
 pub length-padding : (n : ℕ) → length (padding n) ≡ gap n + 1
 unfolding padding opened
@@ -22,6 +22,11 @@ pub padding-same : (m n : ℕ) → m % 136 ≡ n % 136 → padding m ≡ padding
 unfolding padding opened gap
 padding-same m n e =
     ap (λ r. set (0x06 ∷ replicate (135 - r) 0) (135 - r) (bitOr (getD (0x06 ∷ replicate (135 - r) 0) (135 - r) 0) 0x80)) e
+
+-- the padded message is whole blocks
+pub padded-whole : (message : List ℕ) → length (padded message) ≡ blocks message * 136
+unfolding padded blocks gap
+padded-whole message = omega (arith, length-append message (padding (length message)), length-padding (length message))
 
 -- the first byte of the padding, over zeros
 pub opened-set : (rest : List ℕ) → length rest < 136

@@ -1,6 +1,6 @@
 -- What stands at each place of a state after a step of the permutation.
 use Prim.Native.Nat.{ℕ, _+_, _*_, _/_, _%_, _<_}
-use mathlib.Core.Path.{_≡_, refl, sym, ap, _∙_}
+use mathlib.Core.Path.{_≡_, refl, ap, ap₂, _∙_}
 use mathlib.Core.List.{List}
 use native.Mathlib.Numerals.{add-one}
 use native.Mathlib.Omega.{arith}
@@ -15,6 +15,10 @@ unfolding lane place
 lane-at a x y i e =
     let same : x % 5 + 5 * (y % 5) ≡ i = omega arith in
     ap (λ k. getD a k 0) same
+
+pub same-lane : (a : List ℕ) (u v x y : ℕ) → u % 5 ≡ x % 5 → v % 5 ≡ y % 5 → lane a u v ≡ lane a x y
+unfolding lane place
+same-lane a u v x y e f = ap₂ (λ p q. getD a (p + 5 * q) 0) e f
 
 pub length-lanes : (f : ℕ → ℕ → ℕ) → length (lanes f) ≡ 25
 unfolding lanes
@@ -80,6 +84,22 @@ unfolding π ρ
     let fetched : lane a u v ≡ getD a from 0 = lane-at a u v from stood in
     let turned : lane offsets u v ≡ getD offsets from 0 = lane-at offsets u v from stood in
     getD-lanes _ x y hx hy ∙ (lane-lanes _ (x + 3 * y) x ∙ (cc))
+
+-- numbers that differ by fives
+pub fives : (a b c d : ℕ) → a + 5 * b ≡ c + 5 * d → a % 5 % 5 ≡ c % 5
+fives a b c d e = omega arith
+
+-- where the lane of column x and row y goes
+pub πρ-to : (a : List ℕ) (x y : ℕ) → lane (π (ρ a)) y (2 * x + 3 * y) ≡ rotl (lane a x y) (lane offsets x y)
+unfolding π ρ
+πρ-to a x y =
+    let u : ℕ = y % 5 + 3 * ((2 * x + 3 * y) % 5) in
+    let v : ℕ = y % 5 in
+    let column : u % 5 % 5 ≡ x % 5 = fives u (3 * ((2 * x + 3 * y) / 5)) x (x + 2 * v + 9 * (y / 5)) (omega arith) in
+    let row : v % 5 % 5 ≡ y % 5 = omega arith in
+    let moved : lane a (u % 5) (v % 5) ≡ lane a x y = same-lane a (u % 5) (v % 5) x y column row in
+    let turned : lane offsets (u % 5) (v % 5) ≡ lane offsets x y = same-lane offsets (u % 5) (v % 5) x y column row in
+    lane-lanes _ y (2 * x + 3 * y) ∙ (lane-lanes _ u v ∙ (cc))
 
 pub length-χ : (a : List ℕ) → length (χ a) ≡ 25
 unfolding χ

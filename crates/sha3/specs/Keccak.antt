@@ -66,7 +66,7 @@ unfoldable pub ρ : List ℕ → List ℕ
 unfoldable pub π : List ℕ → List ℕ
 π a = lanes (λ x y. lane a (x + 3 * y) x)
 
--- χ adds to each lane the next one of its row, turned over, and the one after that
+-- χ adds to each lane the `and` of the next one of its row, turned over, and the one after that
 unfoldable pub χ : List ℕ → List ℕ
 χ a = lanes (λ x y. bitXor (lane a x y) (bitAnd (complement (lane a (x + 1) y)) (lane a (x + 2) y)))
 

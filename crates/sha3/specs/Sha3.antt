@@ -60,23 +60,24 @@ byte a i = getD a (i / 8) 0 / 2 ^ (8 * (i % 8)) % 256
 unfoldable pub squeezed : List ℕ → List ℕ
 squeezed a = map (byte a) (counting 0 32)
 
-unfoldable pub sha3-256-bytes : List ℕ → List ℕ
-sha3-256-bytes message = squeezed (sponge message (blocks message))
+pub squeezed-whole : (a : List ℕ) → length (squeezed a) ≡ 32
+unfolding squeezed
+squeezed-whole a = length-map-counting (byte a) 0 32
 
-pub sha3-256-whole : (message : List ℕ) → length (sha3-256-bytes message) ≡ 32
-unfolding sha3-256-bytes squeezed
-sha3-256-whole message = length-map-counting (byte (sponge message (blocks message))) 0 32
+pub squeezed-at : (a : List ℕ) (i : ℕ) → i < 32 → getD (squeezed a) i 0 ≡ byte a i
+unfolding squeezed
+squeezed-at a i h = getD-map-counting (byte a) 0 32 i i 0 h (omega arith)
 
-pub byte-fits : (a : List ℕ) (i : ℕ) → byte a i < 256
+pub squeezed-fits : (a : List ℕ) (i : ℕ) → i < 32 → getD (squeezed a) i 0 < 256
 unfolding byte
-byte-fits a i = mod-below (getD a (i / 8) 0 / 2 ^ (8 * (i % 8))) 256 (omega arith)
+squeezed-fits a i h =
+    subst (λ b. b < 256) (sym (squeezed-at a i h)) (mod-below (getD a (i / 8) 0 / 2 ^ (8 * (i % 8))) 256 (omega arith))
 
-pub sha3-256-fits : (message : List ℕ) (k : ℕ) → k < 32 → getD (sha3-256-bytes message) k 0 < 256
-unfolding sha3-256-bytes squeezed
-sha3-256-fits message k h =
-    let a : List ℕ = sponge message (blocks message) in
-    subst (λ b. b < 256) (sym (getD-map-counting (byte a) 0 32 k k 0 h (omega arith))) (byte-fits a k)
+-- the state after the whole padded message
+unfoldable pub soaked : List ℕ → List ℕ
+soaked message = sponge message (blocks message)
 
 -- the digest of each message
 unfoldable pub sha3-256 : List ℕ → Digest
-sha3-256 message = record { bytes = sha3-256-bytes message; whole = sha3-256-whole message; fits = sha3-256-fits message }
+sha3-256 message =
+    record { bytes = squeezed (soaked message); whole = squeezed-whole (soaked message); fits = squeezed-fits (soaked message) }

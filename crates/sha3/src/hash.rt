@@ -1,4 +1,4 @@
-// SHA3-256 as a hash.
+// SHA3-256 as one of the hashes.
 ghost use Rattle.sha3.specs.Sha3.{sha3-256};
 use crate::sponge::sponge;
 use crate::sponge::squeeze;
@@ -6,6 +6,7 @@ use digest::Digest;
 use digest::Hash;
 use digest::Refusal;
 
+// The hash SHA3-256.
 #[derive(Clone, Copy)]
 pub struct Sha3;
 

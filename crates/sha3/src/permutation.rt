@@ -1,8 +1,8 @@
 // The permutation KECCAK-f[1600] on 25 lanes of 64 bits, the lane of column x and row y at x + 5y.
-ghost use Prim.Native.Nat.{_<_};
+ghost use Prim.Native.Nat.{ℕ, _+_, _*_, _<_};
 ghost use lib.ListN.{getD};
 ghost use mathlib.Core.Path.{_≡_};
-ghost use Rattle.sha3.specs.Keccak.{parities, effects, θ, ρ, π, χ, Rnd, keccak-f, offsets, constants};
+ghost use Rattle.sha3.specs.Keccak.{lane, rotl, parities, effects, θ, ρ, π, χ, Rnd, keccak-f, offsets, constants};
 
 // How far ρ rotates each lane.
 const OFFSETS: [u32; 25] = [
@@ -130,7 +130,8 @@ fn theta(a: &[u64; 25]) -> [u64; 25]
 
 // ρ, then π: each lane is fetched from where it stood, and rotated.
 fn rho_pi(a: &[u64; 25]) -> [u64; 25]
-    ensures { λ r. ⌜ r ≡ π (ρ (now (a .entry))) ⌝ }
+    ensures state { λ r. ⌜ r ≡ π (ρ (now (a .entry))) ⌝ }
+    ensures moves { λ r. ⌜ ((x y : ℕ) → lane r y (2 * x + 3 * y) ≡ rotl (lane (now (a .entry)) x y) (lane offsets x y)) ⌝ }
 {
     let mut b = [0; 25];
     for y in 0..5 {
@@ -142,7 +143,7 @@ fn rho_pi(a: &[u64; 25]) -> [u64; 25]
     b
 }
 
-// χ: each lane gets the next one of its row, turned over, and the one after that.
+// χ: each lane gets the `and` of the next one of its row, turned over, and the one after that.
 fn chi(a: &[u64; 25]) -> [u64; 25]
     ensures { λ r. ⌜ r ≡ χ (now (a .entry)) ⌝ }
 {

@@ -3,7 +3,7 @@ ghost use Prim.Native.Nat.{_+_, _*_, _≤_, _<_};
 ghost use lib.ListN.{length};
 ghost use mathlib.Core.List.{_++_};
 ghost use mathlib.Core.Path.{_≡_};
-ghost use Rattle.sha3.specs.Sha3.{word, mixed, absorb, padding, sponge, blocks, squeezed};
+ghost use Rattle.sha3.specs.Sha3.{word, mixed, absorb, padding, padded, blocks, soaked, squeezed};
 use crate::permutation::permute;
 
 // How many bytes a block has.
@@ -52,7 +52,8 @@ fn last_block(rest: &[u8]) -> [u8; RATE]
 
 // The state after the whole message and its padding.
 pub(crate) fn sponge(message: &[u8]) -> [u64; 25]
-    ensures { λ r. ⌜ r ≡ sponge (now (message .entry)) (blocks (now (message .entry))) ⌝ }
+    ensures state { λ r. ⌜ r ≡ soaked (now (message .entry)) ⌝ }
+    ensures whole { λ _. ⌜ length (padded (now (message .entry))) ≡ blocks (now (message .entry)) * 136 ⌝ }
 {
     let count = message.len() / RATE;
     let mut a = [0; 25];

@@ -1,4 +1,3 @@
-use mathlib.Core.Path.{_≡_}
 use Rattle.sha3.specs.Sha3.{absorb}
 use Rattle.sha3.proofs.sponge.absorb.Needs as need
 
