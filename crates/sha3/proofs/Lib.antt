@@ -1,6 +1,6 @@
+pub mod Absorbed
 pub mod Digests
 pub mod Filled
 pub mod Padding
-pub mod Soaked
 pub mod Steps
 pub mod Words

@@ -1,14 +1,13 @@
--- What stands at each place of a block's lanes, of a state with a block added and of the bytes given out.
-use Prim.Native.Nat.{ℕ, _+_, _-_, _*_, _/_, _%_, _^_, _<_, _≤_}
+-- What stands at each place of a block's lanes and of a state with a block added.
+use Prim.Native.Nat.{ℕ, _+_, _-_, _*_, _<_, _≤_}
 use mathlib.Core.Path.{_≡_, refl, sym, ap, _∙_}
 use mathlib.Core.List.{List, [], _∷_}
-use native.Mathlib.Nat.{zero-add}
 use native.Mathlib.Omega.{arith}
 use lib.Bits.{bitXor, xor-zero-r}
 use lib.ListN.{length, getD, take, drop}
 use Rattle.std.proofs.shelf.Counted.{getD-map-counting, length-map-counting}
 use Rattle.std.proofs.shelf.Lists.{drop-all, drop-drop, getD-drop, length-drop, length-take-le}
-use Rattle.sha3.specs.Sha3.{little, word, mixed, byte, squeezed}
+use Rattle.sha3.specs.Sha3.{little, word, mixed}
 
 pub little-first : (bs : List ℕ) → little bs ≡ getD bs 0 0 + 256 * little (drop 1 bs)
 unfolding little
@@ -31,17 +30,17 @@ pub little-eight : (bs : List ℕ) → length bs ≡ 8 → little bs ≡ weighed
 unfolding little
 little-eight bs h =
     let none : little (drop 8 bs) ≡ 0 = ap little (drop-all 8 bs (omega arith)) in
-    omega
-      ( arith
-      , little-from bs 0
-      , little-from bs 1
-      , little-from bs 2
-      , little-from bs 3
-      , little-from bs 4
-      , little-from bs 5
-      , little-from bs 6
-      , little-from bs 7
-      )
+    omega (
+      arith,
+      little-from bs 0,
+      little-from bs 1,
+      little-from bs 2,
+      little-from bs 3,
+      little-from bs 4,
+      little-from bs 5,
+      little-from bs 6,
+      little-from bs 7,
+    )
 
 -- a lane that is read from eight bytes of its block
 pub word-read : (block : List ℕ) (i : ℕ) → 8 * i + 8 ≤ length block → weighed (take (8 * i + 8 - 8 * i) (drop (8 * i) block)) ≡ word block i
@@ -70,11 +69,3 @@ pub mixed-past : (a block : List ℕ) (i : ℕ) → length block ≡ 136 → 17 
 mixed-past a block i n low high =
     mixed-at a block i high
     ∙ (ap (bitXor (getD a i 0)) (word-past block i (omega arith)) ∙ xor-zero-r (getD a i 0))
-
-pub length-squeezed : (a : List ℕ) → length (squeezed a) ≡ 32
-unfolding squeezed
-length-squeezed a = length-map-counting (byte a) 0 32
-
-pub squeezed-at : (a : List ℕ) (i : ℕ) → i < 32 → getD (squeezed a) i 0 ≡ getD a (i / 8) 0 / 2 ^ (8 * (i % 8)) % 256
-unfolding squeezed byte
-squeezed-at a i h = getD-map-counting (byte a) 0 32 i i 0 h (omega arith)

@@ -1,11 +1,12 @@
-// SHA3-256 as a hash.
+// SHA3-256 as one of the hashes.
 ghost use Rattle.sha3.specs.Sha3.{sha3-256};
-use crate::sponge::soak;
+use crate::sponge::sponge;
 use crate::sponge::squeeze;
 use digest::Digest;
 use digest::Hash;
 use digest::Refusal;
 
+// The hash SHA3-256.
 #[derive(Clone, Copy)]
 pub struct Sha3;
 
@@ -27,6 +28,6 @@ pub impl Hash for Sha3 as Sha3Hash {
         if message.len() > LONGEST {
             return Err(Refusal::TooLong);
         }
-        Ok(Digest::of(squeeze(&soak(message))))
+        Ok(Digest::of(squeeze(&sponge(message))))
     }
 }

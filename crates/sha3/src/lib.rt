@@ -1,4 +1,4 @@
-// SHA3-256.
+// The hash SHA3-256 of FIPS 202.
 mod hash;
 mod permutation;
 mod sponge;

@@ -1,12 +1,36 @@
 // The permutation KECCAK-f[1600] on 25 lanes of 64 bits, the lane of column x and row y at x + 5y.
-ghost use Prim.Native.Nat.{_<_};
+ghost use Prim.Native.Nat.{ℕ, _+_, _*_, _<_};
 ghost use lib.ListN.{getD};
 ghost use mathlib.Core.Path.{_≡_};
-ghost use Rattle.sha3.specs.Keccak.{parities, effects, θ, ρ, π, χ, Rnd, keccak-f, offsets, constants};
+ghost use Rattle.sha3.specs.Keccak.{lane, rotl, parities, effects, θ, ρ, π, χ, Rnd, keccak-f, offsets, constants};
 
 // How far ρ rotates each lane.
 const OFFSETS: [u32; 25] = [
-    0, 1, 62, 28, 27, 36, 44, 6, 55, 20, 3, 10, 43, 25, 39, 41, 45, 15, 21, 8, 18, 2, 61, 56, 14,
+    0,
+    1,
+    62,
+    28,
+    27,
+    36,
+    44,
+    6,
+    55,
+    20,
+    3,
+    10,
+    43,
+    25,
+    39,
+    41,
+    45,
+    15,
+    21,
+    8,
+    18,
+    2,
+    61,
+    56,
+    14,
 ];
 
 // What ι adds in each round.
@@ -51,6 +75,7 @@ pub fn round_constants() -> [u64; 24]
     CONSTANTS
 }
 
+// The offset of lane i.
 fn offset(i: usize) -> u32
     requires { ⌜ i < 25 ⌝ }
     ensures { λ r. ⌜ r ≡ getD offsets i 0 ⌝ }
@@ -58,6 +83,7 @@ fn offset(i: usize) -> u32
     OFFSETS[i]
 }
 
+// The constant of round k.
 fn constant(k: usize) -> u64
     requires { ⌜ k < 24 ⌝ }
     ensures { λ r. ⌜ r ≡ getD constants k 0 ⌝ }
@@ -66,7 +92,7 @@ fn constant(k: usize) -> u64
 }
 
 // The xor of each column.
-fn parity(a: &[u64; 25]) -> [u64; 5]
+fn parities(a: &[u64; 25]) -> [u64; 5]
     ensures { λ r. ⌜ r ≡ parities (now (a .entry)) ⌝ }
 {
     let mut c = [0; 5];
@@ -77,7 +103,7 @@ fn parity(a: &[u64; 25]) -> [u64; 5]
 }
 
 // What θ adds to each lane of a column.
-fn effect(c: &[u64; 5]) -> [u64; 5]
+fn effects(c: &[u64; 5]) -> [u64; 5]
     ensures { λ r. ⌜ r ≡ effects (now (c .entry)) ⌝ }
 {
     let mut d = [0; 5];
@@ -87,11 +113,12 @@ fn effect(c: &[u64; 5]) -> [u64; 5]
     d
 }
 
+// θ: each column gets its effect.
 fn theta(a: &[u64; 25]) -> [u64; 25]
     ensures { λ r. ⌜ r ≡ θ (now (a .entry)) ⌝ }
 {
-    let c = parity(a);
-    let d = effect(&c);
+    let c = parities(a);
+    let d = effects(&c);
     let mut b = [0; 25];
     for y in 0..5 {
         for x in 0..5 {
@@ -103,7 +130,8 @@ fn theta(a: &[u64; 25]) -> [u64; 25]
 
 // ρ, then π: each lane is fetched from where it stood, and rotated.
 fn rho_pi(a: &[u64; 25]) -> [u64; 25]
-    ensures { λ r. ⌜ r ≡ π (ρ (now (a .entry))) ⌝ }
+    ensures state { λ r. ⌜ r ≡ π (ρ (now (a .entry))) ⌝ }
+    ensures moves { λ r. ⌜ ((x y : ℕ) → lane r y (2 * x + 3 * y) ≡ rotl (lane (now (a .entry)) x y) (lane offsets x y)) ⌝ }
 {
     let mut b = [0; 25];
     for y in 0..5 {
@@ -115,6 +143,7 @@ fn rho_pi(a: &[u64; 25]) -> [u64; 25]
     b
 }
 
+// χ: each lane gets the `and` of the next one of its row, turned over, and the one after that.
 fn chi(a: &[u64; 25]) -> [u64; 25]
     ensures { λ r. ⌜ r ≡ χ (now (a .entry)) ⌝ }
 {
@@ -139,6 +168,7 @@ fn round(a: &[u64; 25], k: usize) -> [u64; 25]
     b
 }
 
+// All 24 rounds.
 pub(crate) fn permute(a: &[u64; 25]) -> [u64; 25]
     ensures { λ r. ⌜ r ≡ keccak-f (now (a .entry)) ⌝ }
 {

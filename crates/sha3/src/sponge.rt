@@ -1,12 +1,12 @@
 // The sponge: a message is taken in by blocks of 136 bytes, and 32 bytes are given out.
-ghost use Prim.Native.Nat.{_+_, _*_, _/_, _≤_, _<_};
+ghost use Prim.Native.Nat.{_+_, _*_, _≤_, _<_};
 ghost use lib.ListN.{length};
 ghost use mathlib.Core.List.{_++_};
 ghost use mathlib.Core.Path.{_≡_};
-ghost use Rattle.sha3.specs.Sha3.{word, mixed, absorb, padding, padded, sponge, squeezed};
+ghost use Rattle.sha3.specs.Sha3.{word, mixed, absorb, padding, padded, blocks, soaked, squeezed};
 use crate::permutation::permute;
 
-// The bytes of a block.
+// How many bytes a block has.
 const RATE: usize = 136;
 
 // Lane i of a block.
@@ -19,7 +19,7 @@ fn load(block: &[u8], i: usize) -> u64
 }
 
 // The state with a block added.
-fn add(a: &[u64; 25], block: &[u8]) -> [u64; 25]
+fn mix(a: &[u64; 25], block: &[u8]) -> [u64; 25]
     requires { ⌜ length (now block) ≡ 136 ⌝ }
     ensures { λ r. ⌜ r ≡ mixed (now (a .entry)) (now (block .entry)) ⌝ }
 {
@@ -30,19 +30,20 @@ fn add(a: &[u64; 25], block: &[u8]) -> [u64; 25]
     b
 }
 
-fn take_in(a: &[u64; 25], block: &[u8]) -> [u64; 25]
+// The state after one block more.
+fn absorb(a: &[u64; 25], block: &[u8]) -> [u64; 25]
     requires { ⌜ length (now block) ≡ 136 ⌝ }
     ensures { λ r. ⌜ r ≡ absorb (now (a .entry)) (now (block .entry)) ⌝ }
 {
-    permute(&add(a, block))
+    permute(&mix(a, block))
 }
 
 // The last block: what is left of the message, and the padding.
-fn last_block(rest: &[u8]) -> [u8; 136]
+fn last_block(rest: &[u8]) -> [u8; RATE]
     requires { ⌜ length (now rest) < 136 ⌝ }
     ensures { λ r. ⌜ r ≡ now (rest .entry) ++ padding (length (now (rest .entry))) ⌝ }
 {
-    let mut block = [0; 136];
+    let mut block = [0; RATE];
     block[0..rest.len()].copy_from_slice(rest);
     block[rest.len()] = 0x06;
     block[RATE - 1] |= 0x80;
@@ -50,15 +51,16 @@ fn last_block(rest: &[u8]) -> [u8; 136]
 }
 
 // The state after the whole message and its padding.
-pub(crate) fn soak(message: &[u8]) -> [u64; 25]
-    ensures { λ r. ⌜ r ≡ sponge (padded (now (message .entry))) (length (now (message .entry)) / 136 + 1) ⌝ }
+pub(crate) fn sponge(message: &[u8]) -> [u64; 25]
+    ensures state { λ r. ⌜ r ≡ soaked (now (message .entry)) ⌝ }
+    ensures whole { λ _. ⌜ length (padded (now (message .entry))) ≡ blocks (now (message .entry)) * 136 ⌝ }
 {
     let count = message.len() / RATE;
     let mut a = [0; 25];
     for n in 0..count {
-        a = take_in(&a, &message[n * RATE..n * RATE + RATE]);
+        a = absorb(&a, &message[n * RATE..n * RATE + RATE]);
     }
-    take_in(&a, &last_block(&message[count * RATE..]))
+    absorb(&a, &last_block(&message[count * RATE..]))
 }
 
 // The first 32 bytes of a state.

@@ -1,4 +1,3 @@
-use mathlib.Core.Path.{_≡_}
 use Rattle.sha3.specs.Keccak.{place, lane, ι, Rnd}
 use Rattle.sha3.proofs.permutation.round.Needs as need
 

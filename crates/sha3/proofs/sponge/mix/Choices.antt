@@ -3,7 +3,7 @@ use mathlib.Core.Path.{_≡_}
 use lib.ListN.{getD}
 use Rattle.sha3.specs.Sha3.{mixed}
 use Rattle.sha3.proofs.Filled.{Filled}
-use Rattle.sha3.proofs.sponge.add.Given as given
+use Rattle.sha3.proofs.sponge.mix.Given as given
 
 -- what is not written yet is as it was
 abbrev pub Inv-loop-i : given.InvT-loop-i

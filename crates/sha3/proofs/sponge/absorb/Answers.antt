@@ -1,6 +1,5 @@
-use mathlib.Core.Path.{_≡_}
 use Rattle.sha3.specs.Sha3.{absorb}
-use Rattle.sha3.proofs.sponge.take_in.Needs as need
+use Rattle.sha3.proofs.sponge.absorb.Needs as need
 
 pub returns : need.returns
 unfolding absorb
