@@ -1,5 +1,4 @@
 pub mod Absorbed
-pub mod Digests
 pub mod Filled
 pub mod Padding
 pub mod Steps

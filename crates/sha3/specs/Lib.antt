@@ -1,2 +1,3 @@
 pub mod Keccak
 pub mod Sha3
+pub mod Tables

@@ -5,5 +5,5 @@ mod sponge;
 
 pub use hash::Sha3;
 pub use hash::Sha3Hash;
-pub use permutation::offsets;
-pub use permutation::round_constants;
+pub use permutation::rotation;
+pub use permutation::round_constant;

@@ -2,6 +2,7 @@
 ghost use Prim.Native.Nat.{ℕ, _+_, _*_, _<_};
 ghost use lib.ListN.{getD};
 ghost use mathlib.Core.Path.{_≡_};
+ghost use Rattle.sha3.specs.Tables.{rotation-of, constant-of};
 ghost use Rattle.sha3.specs.Keccak.{lane, rotl, parities, effects, θ, ρ, π, χ, Rnd, keccak-f, offsets, constants};
 
 // How far ρ rotates each lane.
@@ -61,20 +62,6 @@ const CONSTANTS: [u64; 24] = [
     0x8000000080008008,
 ];
 
-// The offsets of ρ by lane.
-pub fn offsets() -> [u32; 25]
-    ensures { λ r. ⌜ r ≡ offsets ⌝ }
-{
-    OFFSETS
-}
-
-// The constants of ι by round.
-pub fn round_constants() -> [u64; 24]
-    ensures { λ r. ⌜ r ≡ constants ⌝ }
-{
-    CONSTANTS
-}
-
 // The offset of lane i.
 fn offset(i: usize) -> u32
     requires { ⌜ i < 25 ⌝ }
@@ -89,6 +76,24 @@ fn constant(k: usize) -> u64
     ensures { λ r. ⌜ r ≡ getD constants k 0 ⌝ }
 {
     CONSTANTS[k]
+}
+
+// How far ρ rotates the lane of column x and row y, or none where there is no such lane.
+pub fn rotation(x: usize, y: usize) -> Option<u32>
+    ensures { λ r. ⌜ r ≡ rotation-of x y ⌝ }
+{
+    if x < 5 && y < 5 {
+        Some(offset(x + 5 * y))
+    } else {
+        None
+    }
+}
+
+// What ι adds in round k, or none past the last round.
+pub fn round_constant(k: usize) -> Option<u64>
+    ensures { λ r. ⌜ r ≡ constant-of k ⌝ }
+{
+    if k < 24 { Some(constant(k)) } else { None }
 }
 
 // The xor of each column.

@@ -5,7 +5,7 @@ use lib.ListN.{length}
 use Rattle.std.specs.declared.result.Result.the-variants.{Ok}
 use Rattle.std.proofs.shelf.Tests.{cond-above}
 use Rattle.sha3.specs.Sha3.{soaked, squeezed, sha3-256}
-use Rattle.sha3.proofs.Digests.{same-digest}
+use Rattle.digest.proofs.SameDigest.{same-digest}
 use Rattle.sha3.proofs.hash.Sha3Hash.digest.Needs as need
 
 pub returns : need.returns
