@@ -6,12 +6,15 @@ ghost use mathlib.Core.Path.{_≡_};
 ghost use Rattle.sha256.specs.Tail.{tail as ends, tail-blocks};
 ghost use Rattle.sha256.specs.Words.{eight-bytes};
 
+// The bytes of a block before the eight of the message's length.
+const ROOM: usize = 56;
+
 // How many blocks the end of a message of `len` bytes takes.
 pub(crate) fn blocks(len: usize) -> usize
     ensures count { λ r. ⌜ r ≡ tail-blocks len ⌝ }
     ensures few { λ r. ⌜ (1 ≤ r) × (r ≤ 2) ⌝ }
 {
-    if len % 64 < 56 { 1 } else { 2 }
+    if len % 64 < ROOM { 1 } else { 2 }
 }
 
 // What is left of a message, the padding's first byte, and zeros.
