@@ -43,7 +43,7 @@ fn hashed(message: &[u8]) -> [u8; 32]
     output::bytes(state)
 }
 
-// The hash of FIPS 180-4, by its number 1.
+// SHA-256 as a hash, with the number 1.
 #[derive(Clone, Copy)]
 pub struct Sha256;
 
