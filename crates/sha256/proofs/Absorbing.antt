@@ -1,7 +1,7 @@
 -- The blocks that the program takes are those of the padded message.
-use Prim.Native.Nat.{ℕ, _+_, _-_, _*_, _/_, _%_, _<_, _≤_}
-use mathlib.Core.Path.{_≡_, refl, sym, ap, _∙_}
-use mathlib.Core.List.{List, [], _∷_, _++_}
+use Prim.Native.Nat.{ℕ, _+_, _-_, _*_, _/_, _<_, _≤_}
+use mathlib.Core.Path.{_≡_, sym, ap, _∙_}
+use mathlib.Core.List.{List, _++_}
 use native.Mathlib.Omega.{arith}
 use lib.ListN.{length, take, drop, replicate}
 use Rattle.std.proofs.shelf.Lists.{length-append, length-drop, length-replicate, drop-drop}
@@ -29,7 +29,7 @@ pub block-count : (message : List ℕ) → length (padded message) / 64 ≡ leng
 block-count message = omega (arith, length-padded message, tail-sized (length message))
 
 -- a part of 64 bytes is a block
-pub part-block : (xs : List ℕ) (i : ℕ) → take (i * 64 + 64 - i * 64) (drop (i * 64) xs) ≡ block 64 xs i
+part-block : (xs : List ℕ) (i : ℕ) → take (i * 64 + 64 - i * 64) (drop (i * 64) xs) ≡ block 64 xs i
 part-block xs i = let size : i * 64 + 64 - i * 64 ≡ 64 = omega arith in ap (λ (n : ℕ). take n (drop (i * 64) xs)) size
 
 -- one whole block of the message more

@@ -1,7 +1,7 @@
 -- The end of a padded message, and its length in blocks.
 use Prim.Native.Nat.{ℕ, suc, _+_, _-_, _*_, _/_, _%_, _<_, _≤_}
 use mathlib.Core.Path.{_≡_, refl, sym, ap, _∙_}
-use mathlib.Core.List.{List, [], _∷_, _++_}
+use mathlib.Core.List.{List, _∷_, _++_}
 use native.Mathlib.Omega.{arith}
 use lib.ListN.{length, set, take, drop, replicate}
 use lib.Dec.{ltb}
@@ -17,7 +17,7 @@ pub marked-is : (n : ℕ) (rest ys : List ℕ) → length rest < n → ys ≡ re
     → set (ys ++ postOf 0 (length rest - 0) (replicate n 0)) (length rest) 0x80 ≡ rest ++ 0x80 ∷ replicate (n - 1 - length rest) 0
 marked-is n rest ys h e =
     let left : n - (length rest - 0) ≡ suc (n - 1 - length rest) = omega arith in
-    rw (e, drop-replicate, left) (set-at rest 0 (replicate (n - 1 - length rest) 0) 0x80 (length rest) refl)
+    rw (e, drop-replicate {X = ℕ} (length rest - 0) n 0, left) (set-at rest 0 (replicate (n - 1 - length rest) 0) 0x80 (length rest) refl)
 
 -- eight bytes over the zeros behind the z that stay; q zeros are left
 module _ (rest eight : List ℕ) (z q : ℕ) where

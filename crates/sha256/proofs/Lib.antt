@@ -1,4 +1,3 @@
-pub mod Table
 pub mod Roots
 pub mod Steps
 pub mod SameDigest

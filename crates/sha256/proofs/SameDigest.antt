@@ -1,11 +1,10 @@
 -- Two digests with the same bytes are one: their facts are proved in one way only.
-use Prim.Native.Nat.{ℕ}
+use Prim.Native.Nat.{ℕ, _<_}
 use mathlib.Core.Path.{_≡_}
 use mathlib.Core.HLevel.{Π-prop, isProp→PathP}
 use native.Mathlib.Nat.{ℕ-set}
 use native.Mathlib.Bridge.{le-prop}
 use lib.ListN.{length, getD}
-use Prim.Native.Nat.{_<_}
 use Rattle.digest.specs.declared.value.Digest.{Digest}
 
 pub same-digest : (d e : Digest) → d .bytes ≡ e .bytes → d ≡ e

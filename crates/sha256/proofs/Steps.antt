@@ -1,12 +1,12 @@
 -- Laws of the schedule and of the rounds, one step of a loop at a time.
-use Prim.Native.Nat.{ℕ, zero, suc, _+_, _-_, _*_, _≤_, _<_}
-use mathlib.Core.Path.{_≡_, refl, sym, ap, _∙_}
+use Prim.Native.Nat.{ℕ, zero, suc, _+_, _-_, _≤_, _<_}
+use mathlib.Core.Path.{_≡_, sym, ap, _∙_}
 use mathlib.Core.List.{List, [], _∷_, _++_, map}
 use native.Mathlib.Nat.{add-zero, zero-add, add-suc}
 use native.Mathlib.Omega.{arith}
-use lib.ListN.{length, getD, set, take}
+use lib.ListN.{length, set, take}
 use Rattle.std.specs.Iters.{counting}
-use Rattle.std.proofs.shelf.Lists.{take-more-set, getD-take, take-all}
+use Rattle.std.proofs.shelf.Lists.{take-more-set, getD-take}
 use Rattle.std.proofs.shelf.Counted.{map-counting-more}
 use Rattle.sha256.specs.declared.state.State.{State}
 use Rattle.sha256.specs.Words.{word}

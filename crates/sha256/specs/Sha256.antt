@@ -1,4 +1,4 @@
--- SHA-256 of FIPS 180-4, on lists of bytes.
+-- SHA-256 of FIPS 180-4, on lists of bytes. A state is the eight words a to h.
 use Prim.Native.Nat.{ℕ, zero, suc, _+_, _-_, _*_, _/_, _%_, _<_}
 use mathlib.Core.Path.{_≡_, refl}
 use mathlib.Core.List.{List, [], _∷_, _++_, map}
@@ -12,7 +12,7 @@ use Rattle.digest.specs.Blocks.{absorbed}
 use Rattle.digest.specs.declared.value.Digest.{Digest}
 use Rattle.sha256.specs.declared.state.State.{State}
 use Rattle.sha256.specs.Words.{_⊞_, Ch, Maj, Σ0, Σ1, σ0, σ1, word, word-bytes, eight-bytes}
-use Rattle.sha256.specs.Constants.{K}
+use Rattle.sha256.specs.Constants.{K, first-words}
 
 -- word t of the schedule W, from the words before it
 unfoldable pub next-word : List ℕ → ℕ → ℕ
@@ -66,23 +66,30 @@ sums s z =
 unfoldable pub compressed : State → List ℕ → State
 compressed s block = sums s (rounds (schedule block 48) s 0 64)
 
--- the state before the first block
-abbrev pub initial : State
-initial =
+-- the state of eight words
+abbrev pub state-of : List ℕ → State
+state-of ws =
     record {
-      a = 0x6a09e667;
-      b = 0xbb67ae85;
-      c = 0x3c6ef372;
-      d = 0xa54ff53a;
-      e = 0x510e527f;
-      f = 0x9b05688c;
-      g = 0x1f83d9ab;
-      h = 0x5be0cd19;
+      a = getD ws 0 0;
+      b = getD ws 1 0;
+      c = getD ws 2 0;
+      d = getD ws 3 0;
+      e = getD ws 4 0;
+      f = getD ws 5 0;
+      g = getD ws 6 0;
+      h = getD ws 7 0;
     }
 
--- how many zeros the padding of n bytes has: the fewest with which n, the byte before them and they make 56 modulo 64
+-- the state before the first block
+abbrev pub initial : State
+initial = state-of first-words
+
+-- how many zeros the padding of n bytes has: the fewest with which n, one byte and they make 56 modulo 64
 abbrev pub zeros : ℕ → ℕ
 zeros n = (119 - n % 64) % 64
+
+zeros-reach : (n : ℕ) → ((n + 1 + zeros n) % 64 ≡ 56) × (zeros n < 64)
+zeros-reach n = (omega arith, omega arith)
 
 -- what stands behind a message of n bytes: the bit 1, zeros, and the message's length in bits
 unfoldable pub padding : ℕ → List ℕ

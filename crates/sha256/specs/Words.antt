@@ -4,8 +4,8 @@ use mathlib.Core.List.{List, [], _∷_}
 use lib.Bits.{bitAnd, bitOr, bitXor}
 use lib.ListN.{getD}
 
-infixl 65 _⊞_
 -- the sum of two words, modulo 2 ^ 32
+infixl 65 _⊞_
 abbrev pub _⊞_ : ℕ → ℕ → ℕ
 x ⊞ y = (x + y) % 2 ^ 32
 

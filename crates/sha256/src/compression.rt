@@ -1,5 +1,5 @@
 // One block of 64 bytes, taken into the state.
-ghost use Prim.Native.Nat.{_+_, _≤_};
+ghost use Prim.Native.Nat.{_+_, _<_, _≤_};
 ghost use lib.ListN.{length};
 ghost use mathlib.Core.Path.{_≡_};
 ghost use Rattle.sha256.specs.Sha256.{compressed, round as step, rounds, schedule as words, sums};
@@ -14,7 +14,7 @@ use crate::words::small_sigma1;
 
 // Round t, with the schedule w.
 fn round(s: State, w: &[u32; 64], t: usize) -> State
-    requires { ⌜ t + 1 ≤ 64 ⌝ }
+    requires { ⌜ t < 64 ⌝ }
     ensures { λ r. ⌜ r ≡ step (now (w .entry)) s t ⌝ }
 {
     let t1 = s.h

@@ -2,6 +2,7 @@
 ghost use Prim.Native.Nat.{_≤_};
 ghost use lib.ListN.{length};
 ghost use mathlib.Core.Path.{_≡_};
+ghost use Rattle.digest.specs.Hashes.{longest};
 ghost use Rattle.sha256.specs.Sha256.{sha256, sha256-bytes};
 use crate::compression::compress;
 use crate::output;
@@ -14,6 +15,7 @@ use digest::Refusal;
 // The longest message that is taken, in bytes.
 const LONGEST: usize = 65536;
 
+// The state before the first block.
 const INITIAL: State = State {
     a: 0x6a09e667,
     b: 0xbb67ae85,
@@ -27,7 +29,7 @@ const INITIAL: State = State {
 
 // The hash of a message, as bytes.
 fn hashed(message: &[u8]) -> [u8; 32]
-    requires { ⌜ length (now message) ≤ 65536 ⌝ }
+    requires { ⌜ length (now message) ≤ longest ⌝ }
     ensures { λ r. ⌜ r ≡ sha256-bytes (now (message .entry)) ⌝ }
 {
     let mut state = INITIAL;
@@ -41,6 +43,7 @@ fn hashed(message: &[u8]) -> [u8; 32]
     output::bytes(state)
 }
 
+// SHA-256 as a hash, with the number 1.
 #[derive(Clone, Copy)]
 pub struct Sha256;
 

@@ -1,3 +1,4 @@
+// SHA-256 of FIPS 180-4, proved equal to the standard's definition in specs/.
 mod compression;
 mod constants;
 mod hash;

@@ -1,8 +1,8 @@
-use Prim.Native.Nat.{_+_, _*_}
+use Prim.Native.Nat.{_*_}
 use mathlib.Core.Path.{_≡_, ap, _∙_}
 use native.Mathlib.Omega.{arith}
 use Rattle.sha256.specs.declared.state.State.{State}
-use Rattle.sha256.specs.Sha256.{compressed, rounds, sums}
+use Rattle.sha256.specs.Sha256.{compressed, rounds}
 use Rattle.sha256.proofs.Steps.{rounds-add}
 use Rattle.sha256.proofs.compression.compress.Needs as need
 

@@ -1,6 +1,6 @@
-use mathlib.Core.Path.{_≡_, refl, sym, ap, _∙_}
-use Prim.Native.Nat.{_<_, _≤_}
-use lib.ListN.{length, take, length-set}
+use mathlib.Core.Path.{_≡_, sym, ap, _∙_}
+use Prim.Native.Nat.{_≤_}
+use lib.ListN.{length, length-set}
 use native.Mathlib.Omega.{arith}
 use Rattle.std.proofs.shelf.Lists.{take-all}
 use Rattle.sha256.specs.Sha256.{schedule, next-word}

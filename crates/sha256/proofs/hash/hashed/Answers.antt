@@ -1,5 +1,5 @@
 use Prim.Native.Nat.{_+_, _/_}
-use mathlib.Core.Path.{_≡_, sym, ap, _∙_}
+use mathlib.Core.Path.{_≡_, ap, _∙_}
 use native.Mathlib.Omega.{arith}
 use lib.ListN.{length}
 use Rattle.sha256.specs.Sha256.{padded, sha256-bytes, state-bytes}

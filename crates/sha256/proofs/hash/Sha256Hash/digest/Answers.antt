@@ -1,4 +1,5 @@
 use mathlib.Core.Path.{ap, _∙_}
+use native.Mathlib.Omega.{arith}
 use lib.ListN.{length}
 use Rattle.std.specs.declared.result.Result.the-variants.{Ok, Err}
 use Rattle.std.proofs.shelf.Tests.{cond-above}
@@ -11,5 +12,5 @@ pub returns : need.returns
 unfolding sha256
 returns c =
     let m = c .args .message .now in
-    cond-above 65536 (length m) (Err TooLong) (Ok (sha256 m)) (Ok (c .of .result)) (c .if-message-gt-LONGEST .left)
+    cond-above 65536 (length m) (Err TooLong) (Ok (sha256 m)) (Ok (c .of .result)) (omega arith)
     (ap Ok (same-digest (c .of .result) (sha256 m) (c .of .ensures ∙ c .hashed .ensures)))
