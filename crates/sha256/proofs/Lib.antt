@@ -1,7 +1,7 @@
 pub mod Roots
 pub mod Steps
-pub mod SameDigest
 pub mod Ends
 pub mod Absorbing
 pub mod Choice
 pub mod Written
+pub mod Keys

@@ -10,7 +10,7 @@ use Rattle.std.proofs.shelf.Lists.{take-more-set, getD-take}
 use Rattle.std.proofs.shelf.Counted.{map-counting-more}
 use Rattle.sha256.specs.declared.state.State.{State}
 use Rattle.sha256.specs.Words.{word}
-use Rattle.sha256.specs.Sha256.{next-word, schedule, round, rounds}
+use Rattle.sha256.specs.Sha256.{next-word, schedule, rounds}
 
 -- one word of the block more
 pub block-more : (block w : List ℕ) (t x : ℕ) → t < length w → take t w ≡ map (word block) (counting 0 t) → x ≡ word block t
@@ -42,8 +42,8 @@ schedule-more block w t x low h e p =
     ∙ ap (schedule block) one
 
 -- rounds after rounds
-pub rounds-add : (W : List ℕ) (s : State) (m n : ℕ) → rounds W (rounds W s 0 m) m n ≡ rounds W s 0 (m + n)
-rounds-add W s m zero = ap (rounds W s 0) (sym (add-zero m))
-rounds-add W s m (suc n) =
-    ap (λ (z : State). round W z (m + n)) (rounds-add W s m n) ∙ ap (round W (rounds W s 0 (m + n))) (sym (zero-add (m + n)))
-    ∙ ap (rounds W s 0) (sym (add-suc m n))
+pub rounds-add : (step : State → ℕ → State) (s : State) (m n : ℕ) → rounds step (rounds step s 0 m) m n ≡ rounds step s 0 (m + n)
+rounds-add step s m zero = ap (rounds step s 0) (sym (add-zero m))
+rounds-add step s m (suc n) =
+    ap (λ (z : State). step z (m + n)) (rounds-add step s m n) ∙ ap (step (rounds step s 0 (m + n))) (sym (zero-add (m + n)))
+    ∙ ap (rounds step s 0) (sym (add-suc m n))

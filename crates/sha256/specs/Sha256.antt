@@ -29,24 +29,18 @@ T₁ s k w = s .h ⊞ Σ1 (s .e) ⊞ Ch (s .e) (s .f) (s .g) ⊞ k ⊞ w
 unfoldable pub T₂ : State → ℕ
 T₂ s = Σ0 (s .a) ⊞ Maj (s .a) (s .b) (s .c)
 
+-- the eight words after a round whose sums are t₁ and t₂
+unfoldable pub turned : State → ℕ → ℕ → State
+turned s t₁ t₂ = record { a = t₁ ⊞ t₂; b = s .a; c = s .b; d = s .c; e = s .d ⊞ t₁; f = s .e; g = s .f; h = s .g }
+
 -- round t, with the schedule W
 unfoldable pub round : List ℕ → State → ℕ → State
-round W s t =
-    record {
-      a = T₁ s (getD K t 0) (getD W t 0) ⊞ T₂ s;
-      b = s .a;
-      c = s .b;
-      d = s .c;
-      e = s .d ⊞ T₁ s (getD K t 0) (getD W t 0);
-      f = s .e;
-      g = s .f;
-      h = s .g;
-    }
+round W s t = turned s (T₁ s (getD K t 0) (getD W t 0)) (T₂ s)
 
--- n rounds, from round t on
-abbrev pub rounds : List ℕ → State → ℕ → ℕ → State
-rounds W s t zero = s
-rounds W s t (suc n) = round W (rounds W s t n) (t + n)
+-- n rounds, from round t on; `step` does one
+abbrev pub rounds : (State → ℕ → State) → State → ℕ → ℕ → State
+rounds step s t zero = s
+rounds step s t (suc n) = step (rounds step s t n) (t + n)
 
 -- the words of two states, added
 unfoldable pub sums : State → State → State
@@ -64,7 +58,7 @@ sums s z =
 
 -- the state after one block more
 unfoldable pub compressed : State → List ℕ → State
-compressed s block = sums s (rounds (schedule block 48) s 0 64)
+compressed s block = sums s (rounds (round (schedule block 48)) s 0 64)
 
 -- the state of eight words
 abbrev pub state-of : List ℕ → State

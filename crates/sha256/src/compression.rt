@@ -2,7 +2,8 @@
 ghost use Prim.Native.Nat.{_+_, _<_, _≤_};
 ghost use lib.ListN.{length};
 ghost use mathlib.Core.Path.{_≡_};
-ghost use Rattle.sha256.specs.Sha256.{compressed, round as step, rounds, schedule as words, sums};
+ghost use Rattle.sha256.specs.Keyed.{keyed, keyed-round};
+ghost use Rattle.sha256.specs.Sha256.{compressed, rounds, schedule as words, sums};
 use crate::constants;
 use crate::state::State;
 use crate::words::big_sigma0;
@@ -12,16 +13,15 @@ use crate::words::majority;
 use crate::words::small_sigma0;
 use crate::words::small_sigma1;
 
-// Round t, with the schedule w.
-fn round(s: State, w: &[u32; 64], t: usize) -> State
+// Round t, with the keyed schedule x.
+fn round(s: State, x: &[u32; 64], t: usize) -> State
     requires { ⌜ t < 64 ⌝ }
-    ensures { λ r. ⌜ r ≡ step (now (w .entry)) s t ⌝ }
+    ensures { λ r. ⌜ r ≡ keyed-round (now (x .entry)) s t ⌝ }
 {
     let t1 = s.h
         .wrapping_add(big_sigma1(s.e))
         .wrapping_add(choose(s.e, s.f, s.g))
-        .wrapping_add(constants::of_round(t))
-        .wrapping_add(w[t]);
+        .wrapping_add(x[t]);
     let t2 = big_sigma0(s.a).wrapping_add(majority(s.a, s.b, s.c));
     State {
         a: t1.wrapping_add(t2),
@@ -36,18 +36,18 @@ fn round(s: State, w: &[u32; 64], t: usize) -> State
 }
 
 // Eight rounds, from round t on.
-fn eight_rounds(s: State, w: &[u32; 64], t: usize) -> State
+fn eight_rounds(s: State, x: &[u32; 64], t: usize) -> State
     requires { ⌜ t + 8 ≤ 64 ⌝ }
-    ensures { λ r. ⌜ r ≡ rounds (now (w .entry)) s t 8 ⌝ }
+    ensures { λ r. ⌜ r ≡ rounds (keyed-round (now (x .entry))) s t 8 ⌝ }
 {
-    let s = round(s, w, t);
-    let s = round(s, w, t + 1);
-    let s = round(s, w, t + 2);
-    let s = round(s, w, t + 3);
-    let s = round(s, w, t + 4);
-    let s = round(s, w, t + 5);
-    let s = round(s, w, t + 6);
-    round(s, w, t + 7)
+    let s = round(s, x, t);
+    let s = round(s, x, t + 1);
+    let s = round(s, x, t + 2);
+    let s = round(s, x, t + 3);
+    let s = round(s, x, t + 4);
+    let s = round(s, x, t + 5);
+    let s = round(s, x, t + 6);
+    round(s, x, t + 7)
 }
 
 // The words of two states, added.
@@ -80,11 +80,23 @@ fn schedule(block: &[u8]) -> [u32; 64]
             block[4 * t + 3],
         ]);
     }
-    for t in 16..64 {
-        w[t] = small_sigma1(w[t - 2])
-            .wrapping_add(w[t - 7])
-            .wrapping_add(small_sigma0(w[t - 15]))
-            .wrapping_add(w[t - 16]);
+    for j in 2..8 {
+        for t in 8 * j..8 * j + 8 {
+            w[t] = small_sigma1(w[t - 2])
+                .wrapping_add(w[t - 7])
+                .wrapping_add(small_sigma0(w[t - 15]))
+                .wrapping_add(w[t - 16]);
+        }
+    }
+    w
+}
+
+// A schedule with each round's constant added.
+fn with_constants(mut w: [u32; 64]) -> [u32; 64]
+    ensures { λ r. ⌜ r ≡ keyed w ⌝ }
+{
+    for t in 0..64 {
+        w[t] = constants::of_round(t).wrapping_add(w[t]);
     }
     w
 }
@@ -94,10 +106,10 @@ pub(crate) fn compress(state: State, block: &[u8]) -> State
     requires { ⌜ length (now block) ≡ 64 ⌝ }
     ensures { λ r. ⌜ r ≡ compressed state (now (block .entry)) ⌝ }
 {
-    let w = schedule(block);
+    let x = with_constants(schedule(block));
     let mut s = state;
     for j in 0..8 {
-        s = eight_rounds(s, &w, 8 * j);
+        s = eight_rounds(s, &x, 8 * j);
     }
     added(state, s)
 }

@@ -1,5 +1,5 @@
 use mathlib.Core.Path.{_≡_, sym, ap, _∙_}
-use Prim.Native.Nat.{_≤_}
+use Prim.Native.Nat.{_*_, _≤_}
 use lib.ListN.{length, length-set}
 use native.Mathlib.Omega.{arith}
 use Rattle.std.proofs.shelf.Lists.{take-all}
@@ -14,9 +14,9 @@ loop-t-again c = (
       (c .from-be-bytes .ensures),
 )
 
-pub loop-t-2-holds : need.loop-t-2-holds
+pub loop-j-holds : need.loop-j-holds
 unfolding schedule
-loop-t-2-holds c =
+loop-j-holds c =
     let all : c .loop-t .t ≡ 16 = omega arith in
     (c .loop-t .inv .0, rw all at (c .loop-t .inv .1))
 
@@ -29,5 +29,5 @@ loop-t-2-again c = (
 
 pub returns : need.returns
 returns c =
-    let full : length (c .loop-t-2 .w) ≤ c .loop-t-2 .t = omega arith in
-    sym (take-all (c .loop-t-2 .t) (c .loop-t-2 .w) full) ∙ c .loop-t-2 .inv .1 ∙ ap (schedule (c .args .block .now)) (omega arith)
+    let full : length (c .loop-j .w) ≤ 8 * c .loop-j .j = omega arith in
+    sym (take-all (8 * c .loop-j .j) (c .loop-j .w) full) ∙ c .loop-j .inv .1 ∙ ap (schedule (c .args .block .now)) (omega arith)

@@ -5,7 +5,7 @@ use Rattle.std.specs.declared.result.Result.the-variants.{Ok, Err}
 use Rattle.std.proofs.shelf.Tests.{cond-above}
 use Rattle.digest.specs.declared.refusal.Refusal.the-variants.{TooLong}
 use Rattle.sha256.specs.Sha256.{sha256}
-use Rattle.sha256.proofs.SameDigest.{same-digest}
+use Rattle.digest.proofs.SameDigest.{same-digest}
 use Rattle.sha256.proofs.hash.Sha256Hash.digest.Needs as need
 
 pub returns : need.returns
