@@ -7,6 +7,9 @@ ghost use Rattle.digest.specs.declared.value.Digest.{Digest};
 use crate::refusal::Refusal;
 use crate::value::Digest;
 
+// The longest message that a hash takes, in bytes.
+pub const LONGEST: usize = 65536;
+
 pub trait Hash {
     const NUMBER: u8;
 

@@ -10,6 +10,7 @@ mod value;
 pub use equality::DigestEq;
 pub use equality::DigestPartialEq;
 pub use hash::Hash;
+pub use hash::LONGEST;
 pub use messages::calendar_node;
 pub use messages::empty_second;
 pub use messages::leaf;

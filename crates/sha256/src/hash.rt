@@ -10,10 +10,8 @@ use crate::padding;
 use crate::state::State;
 use digest::Digest;
 use digest::Hash;
+use digest::LONGEST;
 use digest::Refusal;
-
-// The longest message that is taken, in bytes.
-const LONGEST: usize = 65536;
 
 // The state before the first block.
 const INITIAL: State = State {

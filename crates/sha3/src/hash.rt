@@ -4,14 +4,12 @@ use crate::sponge::sponge;
 use crate::sponge::squeeze;
 use digest::Digest;
 use digest::Hash;
+use digest::LONGEST;
 use digest::Refusal;
 
 // The hash SHA3-256.
 #[derive(Clone, Copy)]
 pub struct Sha3;
-
-// The longest message that is taken, in bytes.
-const LONGEST: usize = 65536;
 
 pub impl Hash for Sha3 as Sha3Hash {
     const NUMBER: u8 = 2;
