@@ -1,0 +1,4 @@
+pub mod Sides
+pub mod Split
+pub mod Trees
+pub mod Laws

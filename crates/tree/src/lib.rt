@@ -1,0 +1,11 @@
+// Trees over lists of nodes, paths and shapes, for any kind of node with a joining.
+mod joining;
+mod link;
+
+pub use joining::CalendarJoining;
+pub use joining::CalendarNodes;
+pub use joining::Joining;
+pub use joining::RoundJoining;
+pub use joining::RoundNodes;
+pub use link::Link;
+pub use link::Side;

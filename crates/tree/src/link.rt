@@ -1,0 +1,28 @@
+// One step of a path: where the sibling stands, and the sibling.
+ghost use mathlib.Core.Path.{_≡_};
+ghost use Rattle.tree.specs.Sides.{side-number};
+
+// Where the sibling stands: right of the node, or left of it.
+#[derive(Clone, Copy)]
+pub enum Side {
+    Right,
+    Left,
+}
+
+impl Side {
+    // The side's number in tokens and shapes.
+    pub fn number(self) -> u8
+        ensures { λ r. ⌜ r ≡ side-number self ⌝ }
+    {
+        match self {
+            Side::Right => 0,
+            Side::Left => 1,
+        }
+    }
+}
+
+#[derive(Clone, Copy)]
+pub struct Link<N> {
+    pub side: Side,
+    pub sibling: N,
+}
