@@ -11,7 +11,7 @@ use Rattle.std.proofs.shelf.Tests.{ltb-true, ltb-false, cases-bool, cond-both, 
 use Rattle.tree.specs.Split.{Splits, doubled, split}
 use Rattle.tree.specs.Laws.{Split-law}
 
-twice : (j : ℕ) → 2 ^ suc j ≡ 2 * 2 ^ j
+pub twice : (j : ℕ) → 2 ^ suc j ≡ 2 * 2 ^ j
 twice j = omega (arith, pow-suc 2 j)
 
 below-pow : (n : ℕ) → n < 2 ^ n

@@ -15,15 +15,15 @@ abbrev pub Split-law : Type 0
 Split-law = (n : ℕ) → 2 ≤ n → Splits n (split n) × ((k : ℕ) → Splits n k → k ≡ split n)
 
 -- the path of a place, followed from its node, ends in the root
-abbrev pub Path-law : Type 1
-Path-law =
-    (N : Type 0) (join : N → N → N) (xs : List N) (i : ℕ) (links : List (Link N))
+abbrev pub Path-law : {N : Type 0} → (N → N → N) → Type 0
+Path-law {N} join =
+    (xs : List N) (i : ℕ) (links : List (Link N))
     → path join xs i ≡ Some links → (d : N) → root join xs ≡ Some (followed join (getD xs i d) links)
 
 -- a path's sides depend on the list's length and the place alone
-abbrev pub Shape-law : Type 1
-Shape-law =
-    (N : Type 0) (join : N → N → N) (xs : List N) (i : ℕ) (links : List (Link N))
+abbrev pub Shape-law : {N : Type 0} → (N → N → N) → Type 0
+Shape-law {N} join =
+    (xs : List N) (i : ℕ) (links : List (Link N))
     → path join xs i ≡ Some links → map (λ link. link .side) links ≡ shape (length xs) i
 
 -- two places of one tree with one shape are one place
