@@ -64,3 +64,10 @@ splits-unique n k m a b =
 
 pub split-law : Split-law
 split-law n h = (split-splits n h, λ k splits. splits-unique n k (split n) splits (split-splits n h))
+
+-- where there are no parts, `split` is 1
+pub split-small : (n : ℕ) → n < 2 → split n ≡ 1
+unfolding split doubled
+split-small zero h = refl
+split-small (suc zero) h = refl
+split-small (suc (suc n)) h = absurd (omega arith)
