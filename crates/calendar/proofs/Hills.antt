@@ -26,7 +26,7 @@ nothing-pushed : {N : Type 0} (xs : List N) (y : N) → [] ≡ xs ++ y ∷ [] �
 nothing-pushed xs y e = omega (arith, ap length e, length-push xs y)
 
 -- the last of the first `top` elements
-front-last : {N : Type 0} (xs : List N) (top : ℕ) (d : N) → 1 ≤ top → top ≤ length xs
+pub front-last : {N : Type 0} (xs : List N) (top : ℕ) (d : N) → 1 ≤ top → top ≤ length xs
     → take top xs ≡ take (top - 1) xs ++ getD xs (top - 1) d ∷ []
 front-last xs top d some within =
     let back : top - 1 + 1 ≡ top = omega arith in

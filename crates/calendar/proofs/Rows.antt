@@ -12,6 +12,7 @@ use Rattle.std.proofs.shelf.Tests.{cond-true, cond-false, lt-ltb, le-ltb, and-f
 use Rattle.std.specs.declared.option.Option.the-variants.{Some, None}
 use Rattle.std.specs.shelf.Lists.{between}
 use Rattle.std.specs.shelf.Maps.{nth}
+use Rattle.tree.specs.Trees.{root}
 use Rattle.calendar.specs.Published.{published}
 
 module _ {N : Type 0} where
@@ -48,3 +49,8 @@ module _ {N : Type 0} where
 
   pub published-late : (p : ℕ) (row : List N) → 2 ^ 31 ≤ p → published p row ≡ []
   published-late p row late = cond-false (ltb p (length row) && ltb p (2 ^ 31)) _ _ (and-right _ _ (le-ltb p (2 ^ 31) late))
+
+  -- nodes have a root
+  pub some-root : (join : N → N → N) (xs : List N) → 1 ≤ length xs → root join xs ≡ None → ⊥
+  some-root join [] h e = omega arith
+  some-root join (x ∷ xs) h e = let z : _≡_ {A = ℕ} 0 1 = cc in omega arith

@@ -3,7 +3,7 @@ ghost use Prim.Native.Nat.{_+_, _^_, _<_, _≤_};
 ghost use lib.ListN.{length};
 ghost use mathlib.Core.Path.{_≡_};
 ghost use Rattle.calendar.specs.Published.{published};
-ghost use Rattle.std.specs.declared.option.Option.the-variants.{None};
+ghost use Rattle.std.specs.declared.option.Option.the-variants.{None, Some};
 ghost use Rattle.std.specs.shelf.Lists.{between};
 ghost use Rattle.tree.specs.Trees.{root};
 use crate::forest::feed;
@@ -34,6 +34,17 @@ pub(crate) fn range_root<J: Joining, R: Row<Node = J::Node>>(
         feed::<J>(&mut forest, node);
     }
     Some(whole::<J>(&forest))
+}
+
+// The root of the places `low` to `end` - 1, which the row has.
+pub(crate) fn part_root<J: Joining, R: Row<Node = J::Node>>(row: &R, low: u32, end: u32) -> J::Node
+    requires { ⌜ (low < end) × (end ≤ low + 2 ^ 31) × (end ≤ length (R·Row .row (now row))) ⌝ }
+    ensures { λ r. ⌜ root (J·Joining .joined) (between low end (R·Row .row (now (row .entry)))) ≡ Some r ⌝ }
+{
+    match range_root::<J, R>(row, low, end) {
+        Some(root) => root,
+        None => unreachable(),
+    }
 }
 
 // The root of the calendar that a publication closes; none where the publication is not there.
