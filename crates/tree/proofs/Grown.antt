@@ -1,13 +1,12 @@
 -- The tree over n leaves is a leaf, or the tree over the first `split n` beside that over the rest.
-use Prim.Native.Nat.{ℕ, zero, suc, _+_, _-_, _<_, _≤_}
+use Prim.Native.Nat.{ℕ, zero, suc, _-_, _<_, _≤_}
 use mathlib.Core.Path.{_≡_, refl, sym, ap, _∙_}
-use mathlib.Core.Bool.{true, false, cond}
-use mathlib.Core.Logic.{_⊎_, inl, inr}
+use mathlib.Core.Logic.{inl, inr}
 use native.Mathlib.Omega.{arith}
 use lib.Dec.{ltb}
-use Rattle.std.proofs.shelf.Tests.{cond-true, cond-false, cond-both, lt-ltb, le-ltb, ltb-true, ltb-false, cases-lt}
+use Rattle.std.proofs.shelf.Tests.{cond-true, cond-false, lt-ltb, le-ltb, cases-lt}
 use Rattle.tree.specs.Split.{split}
-use Rattle.tree.specs.Trees.{Tree, leaf, node, leaves, grown, tree}
+use Rattle.tree.specs.Trees.{leaf, node, leaves, grown, tree}
 use Rattle.tree.proofs.Splits.{split-splits}
 
 -- both parts of n leaves have leaves

@@ -4,4 +4,4 @@ pub mod Roots
 pub mod Paths
 pub mod ShapeLaws
 pub mod Written
-pub mod PathSteps
+pub mod Steps

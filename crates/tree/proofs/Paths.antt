@@ -1,22 +1,21 @@
 -- The path of a place: none in a tree of one leaf, else that of its part and the root of the other part.
-use Prim.Native.Nat.{ℕ, zero, suc, _+_, _-_, _<_, _≤_}
+use Prim.Native.Nat.{ℕ, suc, _+_, _-_, _<_, _≤_}
 use mathlib.Core.Path.{_≡_, refl, sym, ap, _∙_}
-use mathlib.Core.Bool.{Bool, true, false, cond}
-use mathlib.Core.Logic.{_⊎_, inl, inr}
+use mathlib.Core.Logic.{inl, inr}
 use mathlib.Core.List.{List, [], _∷_, _++_, map}
 use native.Mathlib.Omega.{arith}
 use lib.Dec.{ltb}
 use lib.ListN.{length, getD, take, drop}
-use Rattle.std.proofs.shelf.Lists.{getD-take, getD-drop, getD-default, map-push, length-take-le, length-drop}
+use Rattle.std.proofs.shelf.Lists.{getD-take, getD-drop, map-push}
 use Rattle.std.proofs.shelf.Tests.{cond-true, cond-false, lt-ltb, le-ltb, ltb-true, ltb-false, cases-bool, cases-lt}
 use Rattle.std.specs.declared.option.Option.the-variants.{Some, None}
 use Rattle.tree.specs.declared.link.Side.{Side}
 use Rattle.tree.specs.declared.link.Side.the-variants.{Right, Left}
 use Rattle.tree.specs.declared.link.Link.{Link}
 use Rattle.tree.specs.Split.{split}
-use Rattle.tree.specs.Trees.{Tree, leaf, node, leaves, tree, root-under, root, path-under, path, step, followed, shape-under, shape}
+use Rattle.tree.specs.Trees.{Tree, leaf, node, leaves, tree, root-under, root, path-under, path, step, followed, shape-under}
 use Rattle.tree.specs.Laws.{Path-law, Shape-law}
-use Rattle.tree.proofs.Grown.{parts, tree-leaf, tree-node, leaves-tree}
+use Rattle.tree.proofs.Grown.{parts, tree-leaf, leaves-tree}
 use Rattle.tree.proofs.Roots.{lengths, root-default, root-is, whole, size, front, back, left-root, right-root}
 
 -- one link more at the root's end

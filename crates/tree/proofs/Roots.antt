@@ -1,13 +1,14 @@
 -- The root of a list: its only node, or the roots of its two parts joined.
-use Prim.Native.Nat.{ℕ, zero, suc, _+_, _-_, _<_, _≤_}
+use Prim.Native.Nat.{ℕ, suc, _+_, _-_, _≤_}
 use mathlib.Core.Path.{_≡_, refl, sym, ap, _∙_}
 use mathlib.Core.List.{List, [], _∷_}
 use native.Mathlib.Omega.{arith}
 use lib.ListN.{length, getD, take, drop}
 use Rattle.std.proofs.shelf.Lists.{getD-default, length-take-le, length-drop}
-use Rattle.std.specs.declared.option.Option.the-variants.{Some, None}
+use Rattle.std.specs.declared.option.Option.the-variants.{Some}
 use Rattle.tree.specs.Split.{split}
 use Rattle.tree.specs.Trees.{Tree, leaf, node, leaves, tree, root-under, root}
+use Rattle.tree.specs.Laws.{Root-law}
 use Rattle.tree.proofs.Grown.{parts, tree-leaf, tree-node, leaves-tree}
 
 -- both parts of a list under a tree have as many nodes as the tree's parts have leaves
@@ -15,10 +16,6 @@ pub lengths : {N : Type 0} (left right : Tree) (xs : List N) → leaves left + l
     → (leaves left ≡ length (take (leaves left) xs)) × (leaves right ≡ length (drop (leaves left) xs))
 lengths left right xs h =
     (sym (length-take-le (leaves left) xs (omega arith)), omega (arith, length-drop (leaves left) xs))
-
-pub some-leaves : (t : Tree) → 1 ≤ leaves t
-some-leaves leaf = omega arith
-some-leaves (node left right) = omega (arith, some-leaves left)
 
 module _ {N : Type 0} (join : N → N → N) where
   -- the node that stands for one that is not there is never used
@@ -76,3 +73,21 @@ module _ {N : Type 0} (join : N → N → N) where
         ∙ (ap (λ t. Some (root-under join t a xs)) whole
         ∙ (ap (λ x. Some (join x (root-under join (tree (length xs - k)) a (drop (leaves (tree k)) xs)))) (left-root a a la)
         ∙ ap (λ x. Some (join a x)) (right-root a b lb)))
+
+  pub root-law : Root-law join
+  root-law = (λ x. root-one (x ∷ []) x refl, parted)
+    where
+      parted : (xs : List N) → 2 ≤ length xs
+          → (a : N) × (b : N) × (root join (take (split (length xs)) xs) ≡ Some a) × (root join (drop (split (length xs)) xs) ≡ Some b)
+          × (root join xs ≡ Some (join a b))
+      parted [] h = absurd (omega arith)
+      parted (x ∷ xs) h =
+          let k : ℕ = split (suc (length xs)) in
+          let left : List N = take k (x ∷ xs) in
+          let right : List N = drop k (x ∷ xs) in
+          let p = parts (suc (length xs)) h in
+          let l = root-is left x (omega (arith, front (x ∷ xs) k h refl, p .0)) in
+          let r = root-is right x (omega (arith, back (x ∷ xs) k h refl, p .1)) in
+          let a : N = root-under join (tree (length left)) x left in
+          let b : N = root-under join (tree (length right)) x right in
+          (a, b, l, r, root-more (x ∷ xs) k h refl a b l r)

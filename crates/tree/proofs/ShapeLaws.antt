@@ -1,22 +1,21 @@
 -- The shape of a place: it tells the place, it is short, and it grows by one side for each parting.
 use Prim.Native.Nat.{ℕ, zero, suc, _+_, _-_, _*_, _^_, _<_, _≤_}
 use mathlib.Core.Path.{_≡_, refl, sym, ap, _∙_}
-use mathlib.Core.Bool.{Bool, true, false, cond}
-use mathlib.Core.Logic.{_⊎_, inl, inr}
+use mathlib.Core.Logic.{inl, inr}
 use mathlib.Core.List.{List, [], _∷_, _++_}
 use native.Mathlib.Omega.{arith}
 use lib.Dec.{ltb}
 use lib.ListN.{length}
 use lib.Pow.{pow-mono}
 use Rattle.std.proofs.shelf.Lists.{length-push, same-from-push}
-use Rattle.std.proofs.shelf.Tests.{cond-true, cond-false, lt-ltb, le-ltb, cases-lt, cases-order}
+use Rattle.std.proofs.shelf.Tests.{cond-true, cond-false, lt-ltb, le-ltb, cases-lt}
 use Rattle.tree.specs.declared.link.Side.{Side}
 use Rattle.tree.specs.declared.link.Side.the-variants.{Right, Left}
 use Rattle.tree.specs.Split.{doubled, split}
 use Rattle.tree.specs.Trees.{Tree, leaf, node, leaves, grown, tree, shape-under, shape, second-shape}
 use Rattle.tree.specs.Laws.{Place-law, Length-law, Examples}
 use Rattle.tree.proofs.Splits.{split-splits, twice}
-use Rattle.tree.proofs.Grown.{parts, tree-leaf, tree-node, leaves-tree}
+use Rattle.tree.proofs.Grown.{parts, tree-node, leaves-tree}
 
 under-left : (left right : Tree) (i : ℕ) → i < leaves left → shape-under (node left right) i ≡ shape-under left i ++ Right ∷ []
 under-left left right i h = cond-true (ltb i (leaves left)) _ _ (lt-ltb i (leaves left) h)

@@ -1,13 +1,12 @@
 -- `split n` is the largest power of two below n, and nothing else is.
-use Prim.Native.Nat.{ℕ, zero, suc, _+_, _*_, _^_, _<_, _≤_}
-use mathlib.Core.Path.{_≡_, refl, sym, ap, subst, _∙_}
-use mathlib.Core.Bool.{Bool, true, false, cond}
+use Prim.Native.Nat.{ℕ, zero, suc, _*_, _^_, _<_, _≤_}
+use mathlib.Core.Path.{_≡_, refl, sym, ap, _∙_}
 use mathlib.Core.Logic.{_⊎_, inl, inr}
 use native.Mathlib.Omega.{arith}
 use native.Mathlib.Nat.{pow-suc}
 use lib.Dec.{ltb}
-use lib.Pow.{pow-mono, pow-pos}
-use Rattle.std.proofs.shelf.Tests.{ltb-true, ltb-false, cases-bool, cond-both, cases-order}
+use lib.Pow.{pow-mono}
+use Rattle.std.proofs.shelf.Tests.{ltb-true, ltb-false, cond-both, cases-order}
 use Rattle.tree.specs.Split.{Splits, doubled, split}
 use Rattle.tree.specs.Laws.{Split-law}
 

@@ -1,10 +1,9 @@
 -- What holds of every tree, and the examples that every reader may check by hand.
-use Prim.Native.Nat.{ℕ, suc, _^_, _<_, _≤_}
+use Prim.Native.Nat.{ℕ, _^_, _<_, _≤_}
 use mathlib.Core.Path.{_≡_}
 use mathlib.Core.List.{List, [], _∷_, map}
-use lib.ListN.{length, getD}
+use lib.ListN.{length, getD, take, drop}
 use Rattle.std.specs.declared.option.Option.the-variants.{Some}
-use Rattle.tree.specs.declared.link.Side.{Side}
 use Rattle.tree.specs.declared.link.Side.the-variants.{Right, Left}
 use Rattle.tree.specs.declared.link.Link.{Link}
 use Rattle.tree.specs.Split.{Splits, split}
@@ -13,6 +12,14 @@ use Rattle.tree.specs.Trees.{root, path, followed, shape, second-shape}
 -- from 2 on, `split n` splits n, and nothing else does
 abbrev pub Split-law : Type 0
 Split-law = (n : ℕ) → 2 ≤ n → Splits n (split n) × ((k : ℕ) → Splits n k → k ≡ split n)
+
+-- the root over one node is that node; over more it joins the root over the first `split n` nodes and that over the rest
+abbrev pub Root-law : {N : Type 0} → (N → N → N) → Type 0
+Root-law {N} join =
+    ((x : N) → root join (x ∷ []) ≡ Some x)
+    × ((xs : List N) → 2 ≤ length xs
+    → (left : N) × (right : N) × (root join (take (split (length xs)) xs) ≡ Some left)
+    × (root join (drop (split (length xs)) xs) ≡ Some right) × (root join xs ≡ Some (join left right)))
 
 -- the path of a place, followed from its node, ends in the root
 abbrev pub Path-law : {N : Type 0} → (N → N → N) → Type 0

@@ -2,10 +2,11 @@
 ghost use Prim.Native.Nat.{_<_, _≤_};
 ghost use lib.ListN.{length, take};
 ghost use mathlib.Core.Path.{_≡_};
+ghost use Rattle.std.specs.Orderings.{Decides};
 ghost use Rattle.std.specs.shelf.Lists.{between};
 ghost use Rattle.std.specs.declared.option.Option.the-variants.{Some};
 ghost use Rattle.tree.specs.Answers.{path-answer, path-over, links-after};
-ghost use Rattle.tree.specs.Laws.{Path-law, Shape-law};
+ghost use Rattle.tree.specs.Laws.{Root-law, Path-law, Shape-law};
 ghost use Rattle.tree.specs.Trees.{root, path, shape};
 ghost use Rattle.tree.specs.declared.link.Side.the-variants.{Right, Left};
 use crate::joining::Joining;
@@ -29,14 +30,25 @@ fn root_over<J: Joining>(nodes: &[J::Node]) -> J::Node
     J::join(&left, &right)
 }
 
+// Whether a list has nodes, and so a root.
+fn has_root<J: Joining>(nodes: &[J::Node]) -> bool
+    ensures value { λ r. ⌜ Decides r (1 ≤ length (now (nodes .entry))) ⌝ }
+    ensures parted { λ _. ⌜ Root-law (J·Joining .joined) ⌝ }
+{
+    nodes.len() >= 1
+}
+
 // The root over a list of nodes; none over an empty list.
 pub fn root<J: Joining>(nodes: &[J::Node]) -> Option<J::Node>
-    ensures { λ r. ⌜ r ≡ root (J·Joining .joined) (now (nodes .entry)) ⌝ }
+    ensures value { λ r. ⌜ r ≡ root (J·Joining .joined) (now (nodes .entry)) ⌝ }
+    ensures parted { λ _. ⌜ Root-law (J·Joining .joined) ⌝ }
 {
-    if nodes.is_empty() {
-        return None;
+    let some = has_root::<J>(nodes);
+    if some {
+        Some(root_over::<J>(nodes))
+    } else {
+        None
     }
-    Some(root_over::<J>(nodes))
 }
 
 // The last link of a place's path, in a list parted at k: the root of the part that the place is not in.

@@ -14,15 +14,15 @@ use crate::parting::left_part;
 pub(crate) fn sides_of(n: usize, place: usize) -> usize
     ensures { λ r. ⌜ r ≡ length (shape n place) ⌝ }
 {
-    let mut left = n;
+    let mut leaves = n;
     let mut at = place;
     let mut count = 0;
-    while left > 1 {
-        let k = left_part(left);
+    while leaves > 1 {
+        let k = left_part(leaves);
         if at < k {
-            left = k;
+            leaves = k;
         } else {
-            left -= k;
+            leaves -= k;
             at -= k;
         }
         count += 1;

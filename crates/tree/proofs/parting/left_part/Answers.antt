@@ -3,7 +3,7 @@ use mathlib.Core.Path.{_≡_, refl, sym, ap, _∙_}
 use native.Mathlib.Omega.{arith}
 use lib.Count.{leadingZeros}
 use Rattle.std.proofs.shelf.Bits.{leading-top, one-shl}
-use Rattle.tree.specs.Split.{Splits, doubled, split}
+use Rattle.tree.specs.Split.{Splits, split}
 use Rattle.tree.proofs.Splits.{split-splits, splits-unique, split-law, split-small, twice}
 use Rattle.tree.proofs.parting.left_part.Needs as need
 

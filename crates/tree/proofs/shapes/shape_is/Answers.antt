@@ -1,12 +1,11 @@
-use Prim.Native.Nat.{ℕ, _-_, _≤_}
-use mathlib.Core.Path.{_≡_, refl, sym, ap, _∙_}
-use mathlib.Core.List.{List, _++_}
+use Prim.Native.Nat.{ℕ, _-_}
+use mathlib.Core.Path.{_≡_, sym, ap, _∙_}
+use mathlib.Core.List.{List}
 use native.Mathlib.Omega.{arith}
 use lib.ListN.{length, take, drop, replicate}
 use Rattle.std.proofs.shelf.Lists.{take-at}
 use Rattle.tree.specs.declared.link.Side.{Side}
-use Rattle.tree.specs.declared.link.Side.the-variants.{Right, Left}
-use Rattle.tree.specs.Answers.{over}
+use Rattle.tree.specs.declared.link.Side.the-variants.{Right}
 use Rattle.tree.specs.Trees.{shape}
 use Rattle.tree.proofs.ShapeLaws.{shape-short}
 use Rattle.tree.proofs.shapes.shape_is.Needs as need
