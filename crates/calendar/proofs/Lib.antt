@@ -1,0 +1,5 @@
+pub mod Sizes
+pub mod Rows
+pub mod Hills
+pub mod Descents
+pub mod PathAnswers
