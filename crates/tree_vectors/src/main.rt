@@ -1,5 +1,10 @@
 // Runs roots, paths and shapes for all sizes up to 70, and shapes under some large publications.
 // The expected output comes from outside: tools/expected_tree_vectors.py computes it from the rules with python3's hashlib.
+use calendar::DigestSmall;
+use calendar::Slice;
+use calendar::SliceRow;
+use calendar::calendar_path;
+use calendar::calendar_root;
 use digest::Digest;
 use digest::DigestDisplay;
 use digest::DigestPartialEq;
@@ -15,6 +20,7 @@ use tree::CalendarJoining;
 use tree::CalendarNodes;
 use tree::Joining;
 use tree::Link;
+use tree::PathRefusal;
 use tree::RoundJoining;
 use tree::RoundNodes;
 use tree::Side;
@@ -59,10 +65,36 @@ fn nodes(heap: Global, n: u32) -> Result<Vec<Digest>, AllocError> {
     Ok(all)
 }
 
+// The root over the nodes: from the slice at once, or read one by one as a calendar.
+fn root_of<J: Joining<Node = Digest>>(xs: &[Digest], n: u32, one_by_one: bool) -> Option<Digest> {
+    if one_by_one {
+        calendar_root::<J, Slice<Digest>>(&Slice::new(xs), n.saturating_sub(1))
+    } else {
+        root::<J>(xs)
+    }
+}
+
+// The path of a place, in the same two ways.
+fn path_of<J: Joining<Node = Digest>>(
+    xs: &[Digest],
+    n: u32,
+    place: u32,
+    one_by_one: bool,
+    links: &mut [Link<Digest>],
+) -> Result<usize, PathRefusal> {
+    if one_by_one {
+        calendar_path::<J, Slice<Digest>>(&Slice::new(xs), n.saturating_sub(1), place, links)
+    } else {
+        path::<J>(xs, place as usize, links)
+    }
+}
+
 // Adds the links of one place to the bytes, and answers 1 where they lead from its node to the root.
 fn add_path<J: Joining<Node = Digest>>(
     xs: &[Digest],
-    place: usize,
+    n: u32,
+    place: u32,
+    one_by_one: bool,
     top: &Digest,
     bytes: &mut Vec<u8>,
 ) -> Result<u32, AllocError> {
@@ -70,7 +102,7 @@ fn add_path<J: Joining<Node = Digest>>(
         side: Side::Right,
         sibling: *top,
     }; 8];
-    let Ok(count) = path::<J>(xs, place, &mut links) else {
+    let Ok(count) = path_of::<J>(xs, n, place, one_by_one, &mut links) else {
         return Ok(0);
     };
     let way = links.get(0..count).unwrap_or(&[]);
@@ -78,7 +110,7 @@ fn add_path<J: Joining<Node = Digest>>(
         bytes.push(link.side.number())?;
         bytes.extend_from_slice(link.sibling.as_bytes())?;
     }
-    let Some(start) = xs.get(place) else {
+    let Some(start) = xs.get(place as usize) else {
         return Ok(0);
     };
     if follow::<J>(start, way) == *top {
@@ -92,16 +124,17 @@ fn size<J: Joining<Node = Digest>, H: Hash>(
     rt: &LibcRuntime,
     label: &str,
     n: u32,
+    one_by_one: bool,
 ) -> Result<(), AnyError> {
     let xs = nodes(rt.alloc(), n)?;
-    let Some(top) = root::<J>(xs.as_slice()) else {
+    let Some(top) = root_of::<J>(xs.as_slice(), n, one_by_one) else {
         return Err("no root".into());
     };
     println!(rt, "{label} {n}: root {top}")?;
     let mut bytes = Vec::new(rt.alloc());
     let mut followed = 0u32;
-    for place in 0..xs.len() {
-        let one = add_path::<J>(xs.as_slice(), place, &top, &mut bytes)?;
+    for place in 0..n {
+        let one = add_path::<J>(xs.as_slice(), n, place, one_by_one, &top, &mut bytes)?;
         followed = followed.saturating_add(one);
     }
     match H::digest(bytes.as_slice()) {
@@ -111,9 +144,13 @@ fn size<J: Joining<Node = Digest>, H: Hash>(
     Ok(())
 }
 
-fn all<J: Joining<Node = Digest>, H: Hash>(rt: &LibcRuntime, label: &str) -> Result<(), AnyError> {
+fn all<J: Joining<Node = Digest>, H: Hash>(
+    rt: &LibcRuntime,
+    label: &str,
+    one_by_one: bool,
+) -> Result<(), AnyError> {
     for n in 1..=SIZES {
-        size::<J, H>(rt, label, n)?;
+        size::<J, H>(rt, label, n, one_by_one)?;
     }
     Ok(())
 }
@@ -148,10 +185,10 @@ fn shapes(rt: &LibcRuntime, n: u32) -> Result<(), AnyError> {
 }
 
 fn run(rt: &LibcRuntime) -> Result<(), AnyError> {
-    all::<RoundNodes<Sha256>, Sha256>(rt, "SHA-256 round")?;
-    all::<CalendarNodes<Sha256>, Sha256>(rt, "SHA-256 calendar")?;
-    all::<RoundNodes<Sha3>, Sha3>(rt, "SHA3-256 round")?;
-    all::<CalendarNodes<Sha3>, Sha3>(rt, "SHA3-256 calendar")?;
+    all::<RoundNodes<Sha256>, Sha256>(rt, "SHA-256 round", false)?;
+    all::<CalendarNodes<Sha256>, Sha256>(rt, "SHA-256 calendar", true)?;
+    all::<RoundNodes<Sha3>, Sha3>(rt, "SHA3-256 round", false)?;
+    all::<CalendarNodes<Sha3>, Sha3>(rt, "SHA3-256 calendar", true)?;
     for n in 1..=SIZES {
         shapes(rt, n)?;
     }
