@@ -5,10 +5,10 @@ ghost use Rattle.sha256.specs.Sha256.{sha256};
 ghost use Rattle.sha3.specs.Sha3.{sha3-256};
 ghost use Rattle.chashes.specs.Told.{told, placed};
 use digest::Hash;
-use sha256::Sha256;
-use sha256::Sha256Hash;
 use sha3::Sha3;
 use sha3::Sha3Hash;
+use sha256::Sha256;
+use sha256::Sha256Hash;
 
 #[repr(C)]
 #[derive(Clone, Copy)]

@@ -14,11 +14,12 @@ Filled n whole xs i = (length xs ≡ n) × ((k : ℕ) → k < i → getD xs k 0 
 
 pub filled-more : (n : ℕ) (whole xs : List ℕ) (i j v : ℕ) → Filled n whole xs i → i < n → i + 1 ≡ j → v ≡ getD whole i 0
     → Filled n whole (set xs i v) j
-filled-more n whole xs i j v inv h next here =
-    (length-set xs i v ∙ inv .0,
-        λ k l.
-            subst (λ w. getD (set xs i w) k 0 ≡ getD whole k 0) (sym here)
-            (fill-by-more (λ m. getD whole m 0) xs i 0 (omega arith) (inv .1) k (omega arith)))
+filled-more n whole xs i j v inv h next here = (
+  length-set xs i v ∙ inv .0,
+  λ k l.
+      subst (λ w. getD (set xs i w) k 0 ≡ getD whole k 0) (sym here)
+      (fill-by-more (λ m. getD whole m 0) xs i 0 (omega arith) (inv .1) k (omega arith)),
+)
 
 pub filled-all : (n : ℕ) (whole xs : List ℕ) (i : ℕ) → length whole ≡ n → Filled n whole xs i → n ≤ i → xs ≡ whole
 filled-all n whole xs i e inv full = ext-getD 0 xs whole (inv .0 ∙ sym e) (λ k l. inv .1 k (omega arith))

@@ -21,7 +21,7 @@ unfolding padded
 soaked-more message n h =
     let size : n * 136 + 136 - n * 136 ≡ 136 = omega arith in
     let cut : block 136 (padded message) n ≡ block 136 message n =
-        block-front 136 message (padding (length message)) n (omega arith)
+    block-front 136 message (padding (length message)) n (omega arith)
     in
     ap (λ k. absorb (sponge (padded message) n) (take k (drop (n * 136) message))) size
     ∙ (ap (absorb (sponge (padded message) n)) (sym cut) ∙ sym (sponge-more (padded message) n))

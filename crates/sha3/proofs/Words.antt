@@ -31,17 +31,17 @@ pub little-eight : (bs : List ℕ) → length bs ≡ 8 → little bs ≡ weighed
 unfolding little
 little-eight bs h =
     let none : little (drop 8 bs) ≡ 0 = ap little (drop-all 8 bs (omega arith)) in
-    omega
-      ( arith
-      , little-from bs 0
-      , little-from bs 1
-      , little-from bs 2
-      , little-from bs 3
-      , little-from bs 4
-      , little-from bs 5
-      , little-from bs 6
-      , little-from bs 7
-      )
+    omega (
+      arith,
+      little-from bs 0,
+      little-from bs 1,
+      little-from bs 2,
+      little-from bs 3,
+      little-from bs 4,
+      little-from bs 5,
+      little-from bs 6,
+      little-from bs 7,
+    )
 
 -- a lane that is read from eight bytes of its block
 pub word-read : (block : List ℕ) (i : ℕ) → 8 * i + 8 ≤ length block → weighed (take (8 * i + 8 - 8 * i) (drop (8 * i) block)) ≡ word block i

@@ -6,7 +6,31 @@ ghost use Rattle.sha3.specs.Keccak.{parities, effects, θ, ρ, π, χ, Rnd, ke
 
 // How far ρ rotates each lane.
 const OFFSETS: [u32; 25] = [
-    0, 1, 62, 28, 27, 36, 44, 6, 55, 20, 3, 10, 43, 25, 39, 41, 45, 15, 21, 8, 18, 2, 61, 56, 14,
+    0,
+    1,
+    62,
+    28,
+    27,
+    36,
+    44,
+    6,
+    55,
+    20,
+    3,
+    10,
+    43,
+    25,
+    39,
+    41,
+    45,
+    15,
+    21,
+    8,
+    18,
+    2,
+    61,
+    56,
+    14,
 ];
 
 // What ι adds in each round.

@@ -9,18 +9,48 @@ use digest::empty_second;
 use digest::leaf;
 use digest::mask;
 use digest::round_node;
-use sha256::Sha256;
-use sha256::Sha256Hash;
 use sha3::Sha3;
 use sha3::Sha3Hash;
+use sha256::Sha256;
+use sha256::Sha256Hash;
 use std::alloc::AllocError;
 use std::alloc::Global;
 use std::error::AnyError;
 
 // Lengths at which a block or its padding ends or begins, for both hashes, and the longest message with its neighbours.
 const LENGTHS: [usize; 32] = [
-    0, 1, 3, 8, 31, 32, 33, 54, 55, 56, 57, 63, 64, 65, 66, 111, 119, 120, 127, 128, 129, 135, 136, 137, 271, 272, 273, 1000, 16384,
-    65535, 65536, 65537,
+    0,
+    1,
+    3,
+    8,
+    31,
+    32,
+    33,
+    54,
+    55,
+    56,
+    57,
+    63,
+    64,
+    65,
+    66,
+    111,
+    119,
+    120,
+    127,
+    128,
+    129,
+    135,
+    136,
+    137,
+    271,
+    272,
+    273,
+    1000,
+    16384,
+    65535,
+    65536,
+    65537,
 ];
 
 // Bytes that differ from their neighbours: 17, 148, 23, and so on by 131.
@@ -52,7 +82,12 @@ fn row(first: u8) -> Digest {
     Digest::of(bytes)
 }
 
-fn line<H: Hash>(rt: &LibcRuntime, name: &str, label: &str, message: &[u8]) -> Result<(), AnyError> {
+fn line<H: Hash>(
+    rt: &LibcRuntime,
+    name: &str,
+    label: &str,
+    message: &[u8],
+) -> Result<(), AnyError> {
     match H::digest(message) {
         Ok(digest) => println!(rt, "{name} {label}: {digest}")?,
         Err(refusal) => {
@@ -67,7 +102,12 @@ fn line<H: Hash>(rt: &LibcRuntime, name: &str, label: &str, message: &[u8]) -> R
 fn published<H: Hash>(rt: &LibcRuntime, name: &str) -> Result<(), AnyError> {
     line::<H>(rt, name, "empty", b"")?;
     line::<H>(rt, name, "abc", b"abc")?;
-    line::<H>(rt, name, "448 bits", b"abcdbcdecdefdefgefghfghighijhijkijkljklmklmnlmnomnopnopq")?;
+    line::<H>(
+        rt,
+        name,
+        "448 bits",
+        b"abcdbcdecdefdefgefghfghighijhijkijkljklmklmnlmnomnopnopq",
+    )?;
     line::<H>(
         rt,
         name,
