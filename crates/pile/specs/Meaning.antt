@@ -1,7 +1,7 @@
 -- What a pile means: a calendar row, its last round, and a way for each place of that round.
-use Prim.Native.Nat.{ℕ, _+_, _-_, _^_, _≤_, _<_}
+use Prim.Native.Nat.{ℕ, _-_, _≤_}
 use mathlib.Core.Path.{_≡_}
-use mathlib.Core.List.{List, [], _∷_, _++_}
+use mathlib.Core.List.{List, []}
 use lib.ListN.{length, getD}
 use Rattle.std.specs.declared.option.Option.the-variants.{Some}
 use Rattle.std.specs.shelf.Maps.{nth}
@@ -37,26 +37,16 @@ pub record Sealed : Type 0 where
 abbrev pub round-join : (List ℕ → Digest) → Digest → Digest → Digest
 round-join digested left right = digested (round-message left right)
 
--- the ways lead from each item of a list to one digest, and none is longer than `deepest`
-pub record Lead (digested : List ℕ → Digest) (items : List Digest) (ways : List Way) (deepest : ℕ) (end : Digest) : Type 0 where
-  pub whole : length ways ≡ length items
-  pub short : (i : ℕ) → length (getD ways i []) ≤ deepest
-  pub leads : (i : ℕ) (item : Digest) → nth items i ≡ Some item → followed (round-join digested) item (getD ways i []) ≡ end
-
--- what holds of a pile at any time
-pub record Sound (m : Meaning) : Type 0 where
-  pub whole : length (m .ways) ≡ length (m .round)
-  pub short : (i : ℕ) → length (getD (m .ways) i []) ≤ m .deepest
-  pub held : length (m .row) ≤ m .span
-  pub bounded : m .span ≤ 2 ^ 31
-
--- what holds of the joining: the ways lead to the digest, and an empty list gets that of the empty second
-pub record Joins (digested : List ℕ → Digest) (m : Meaning) (seal : List Digest → Sealed) : Type 0 where
-  pub leads : (items : List Digest) → length items ≤ m .most → Lead digested items (seal items .ways) (m .deepest) (seal items .digest)
-  pub empty : seal [] .digest ≡ digested empty-message
-
 -- the law: following way i from item i of the last round gives the row's last digest
 abbrev pub Law : (List ℕ → Digest) → Meaning → Type 0
 Law digested m =
     (i : ℕ) (item : Digest) → nth (m .round) i ≡ Some item
     → nth (m .row) (length (m .row) - 1) ≡ Some (followed (round-join digested) item (getD (m .ways) i []))
+
+-- after an empty list the row's last digest is that of the empty second
+abbrev pub Empty-law : (List ℕ → Digest) → Meaning → Type 0
+Empty-law digested m = m .round ≡ [] → nth (m .row) (length (m .row) - 1) ≡ Some (digested empty-message)
+
+-- no way is longer than `deepest`
+abbrev pub Short : Meaning → Type 0
+Short m = (i : ℕ) → length (getD (m .ways) i []) ≤ m .deepest

@@ -1,8 +1,9 @@
 // The head, the bottom of every pile: its calendar memory is a row of records that the program lends.
 ghost use mathlib.Core.Bool.{false};
 ghost use mathlib.Core.Path.{_≡_};
-ghost use Rattle.pile.specs.Head.{head-meaning, head-seal};
+ghost use Rattle.pile.specs.Head.{head-meaning, head-digest, head-seal};
 use crate::pile::Pile;
+use crate::records::Records;
 use crate::refusal::CommitRefusal;
 use crate::refusal::WayRefusal;
 use digest::Digest;
@@ -11,39 +12,38 @@ use digest::empty_second;
 use std::marker::PhantomData;
 use tree::Link;
 
-// The most seconds that a calendar has.
-const LONGEST: usize = 0x8000_0000;
-
 #[derive(Drop)]
 pub struct Head<'a, D> {
-    records: &'a mut [Digest],
-    held: usize,
-    filled: bool,
+    records: Records<'a>,
     hash: PhantomData<D>,
 }
 
 impl<'a, D: Hash> Head<'a, D> {
     // A head over these records, which holds no second yet.
     pub fn over(records: &'a mut [Digest]) -> Head<'a, D>
-        ensures { λ r. ⌜ head-meaning (now (r .records)) (r .held) (r .filled) ≡ head-meaning (now (records .entry)) 0 false ⌝ }
+        ensures { λ r. ⌜ head-meaning (now (r .records .lent)) (r .records .held) (r .records .filled) ≡ head-meaning (now (records .entry)) 0 false ⌝ }
     {
         Head {
-            records,
-            held: 0,
-            filled: false,
+            records: Records::over(records),
             hash: PhantomData,
         }
     }
+}
 
-    fn room(&self) -> usize {
-        self.records.len().min(LONGEST)
+// What a list of at most one digest adds to the row: the digest as it is, or that of an empty second.
+fn entered<D: Hash>(_hash: PhantomData<D>, list: &[Digest]) -> Digest
+    ensures { λ r. ⌜ r ≡ head-digest (D·Hash .digested) (now (list .entry)) ⌝ }
+{
+    match list {
+        [] => empty_second::<D>(),
+        [digest, ..] => *digest,
     }
 }
 
 pub impl<D: Hash> Pile for Head<'_, D> as HeadPile {
     type Digester = D;
 
-    ghost meaning = { λ p. head-meaning (p .records .now) (p .held) (p .filled) };
+    ghost meaning = { λ p. head-meaning (p .records .lent .now) (p .records .held) (p .records .filled) };
 
     ghost seal = { λ p. head-seal (D·Hash .digested) };
 
@@ -51,34 +51,24 @@ pub impl<D: Hash> Pile for Head<'_, D> as HeadPile {
         if list.len() > 1 {
             return Err(CommitRefusal::TooMany);
         }
-        if self.held >= self.room() {
+        if self.records.full() {
             return Err(CommitRefusal::Full);
         }
-        let digest = if list.is_empty() {
-            empty_second::<D>()
-        } else {
-            list[0]
-        };
-        self.records[self.held] = digest;
-        self.held += 1;
-        self.filled = !list.is_empty();
+        let digest = entered(self.hash, list);
+        self.records.enter(digest, !list.is_empty());
         Ok(())
     }
 
     fn seconds(&self) -> u32 {
-        self.held.min(self.room()) as u32
+        self.records.seconds()
     }
 
     fn second(&self, second: u32) -> Option<Digest> {
-        if second < self.seconds() {
-            Some(self.records[second as usize])
-        } else {
-            None
-        }
+        self.records.at(second)
     }
 
     fn way_length(&self, place: usize) -> Option<u8> {
-        if place == 0 && self.filled && self.seconds() > 0 {
+        if place < self.records.places() {
             Some(0)
         } else {
             None
@@ -86,7 +76,7 @@ pub impl<D: Hash> Pile for Head<'_, D> as HeadPile {
     }
 
     fn way(&self, place: usize, _links: &mut [Link<Digest>]) -> Result<usize, WayRefusal> {
-        if place == 0 && self.filled && self.seconds() > 0 {
+        if place < self.records.places() {
             Ok(0)
         } else {
             Err(WayRefusal::Absent)
@@ -98,7 +88,7 @@ pub impl<D: Hash> Pile for Head<'_, D> as HeadPile {
     }
 
     fn span(&self) -> u32 {
-        self.room() as u32
+        self.records.room()
     }
 
     fn deepest(&self) -> u8 {

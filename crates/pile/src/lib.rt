@@ -1,6 +1,7 @@
 // Piles: what they mean, and the head, the bottom of every pile.
 mod head;
 mod pile;
+mod records;
 mod refusal;
 
 pub use head::Head;

@@ -1,12 +1,12 @@
 // What a pile is: it joins the list of digests of one second to one digest of the calendar.
-ghost use Prim.Native.Nat.{ℕ};
+ghost use Prim.Native.Nat.{_^_, _≤_};
 ghost use lib.ListN.{length};
 ghost use mathlib.Core.List.{List};
 ghost use mathlib.Core.Path.{_≡_};
 ghost use Rattle.std.specs.declared.result.Result.the-variants.{Ok};
 ghost use Rattle.std.specs.shelf.Maps.{nth};
 ghost use Rattle.digest.specs.declared.value.Digest.{Digest};
-ghost use Rattle.pile.specs.Meaning.{Meaning, Sealed, Sound, Joins, Law};
+ghost use Rattle.pile.specs.Meaning.{Meaning, Sealed, Law, Empty-law, Short};
 ghost use Rattle.pile.specs.Answers.{commit-answer, committed, told, way-length, way-answer, way-written};
 use crate::refusal::CommitRefusal;
 use crate::refusal::WayRefusal;
@@ -23,19 +23,17 @@ pub trait Pile {
     // the digest and the ways that a list would get now
     ghost seal: { Self → List Digest → Sealed };
 
-    law sound: { (p : Self) → Sound (meaning p) };
-
-    law joins: { (p : Self) → Joins (Digester·Hash .digested) (meaning p) (seal p) };
-
     // Enters the list of one second, which becomes the last round.
     fn commit(&mut self, list: &[Digest]) -> Result<(), CommitRefusal>
         ensures outcome { λ r. ⌜ r ≡ commit-answer (meaning (now (self .entry))) (now (list .entry)) ⌝ }
         ensures after { λ r. ⌜ meaning (now (self .exit)) ≡ committed (meaning (now (self .entry))) (now (list .entry)) (seal (now (self .entry)) (now (list .entry))) r ⌝ }
-        ensures law { λ r. ⌜ (r ≡ Ok tt → Law (Digester·Hash .digested) (meaning (now (self .exit)))) ⌝ };
+        ensures law { λ r. ⌜ (r ≡ Ok tt → Law (Digester·Hash .digested) (meaning (now (self .exit)))) ⌝ }
+        ensures empty { λ r. ⌜ (r ≡ Ok tt → Empty-law (Digester·Hash .digested) (meaning (now (self .exit)))) ⌝ };
 
     // How many seconds the row holds.
     fn seconds(&self) -> u32
-        ensures { λ r. ⌜ r ≡ length (meaning (now (self .entry)) .row) ⌝ };
+        ensures held { λ _. ⌜ length (meaning (now (self .entry)) .row) ≤ meaning (now (self .entry)) .span ⌝ }
+        ensures value { λ r. ⌜ r ≡ length (meaning (now (self .entry)) .row) ⌝ };
 
     // The digest of a second, or none where the row does not hold it.
     fn second(&self, second: u32) -> Option<Digest>
@@ -56,9 +54,11 @@ pub trait Pile {
 
     // How many seconds the row can hold.
     fn span(&self) -> u32
-        ensures { λ r. ⌜ r ≡ meaning (now (self .entry)) .span ⌝ };
+        ensures bounded { λ _. ⌜ meaning (now (self .entry)) .span ≤ 2 ^ 31 ⌝ }
+        ensures value { λ r. ⌜ r ≡ meaning (now (self .entry)) .span ⌝ };
 
     // At least the length of every way, told as at most 255.
     fn deepest(&self) -> u8
-        ensures { λ r. ⌜ r ≡ told (meaning (now (self .entry)) .deepest) ⌝ };
+        ensures short { λ _. ⌜ Short (meaning (now (self .entry))) ⌝ }
+        ensures value { λ r. ⌜ r ≡ told (meaning (now (self .entry)) .deepest) ⌝ };
 }
