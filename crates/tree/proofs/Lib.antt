@@ -2,4 +2,6 @@ pub mod Splits
 pub mod Grown
 pub mod Roots
 pub mod Paths
-pub mod Shapes
+pub mod ShapeLaws
+pub mod Written
+pub mod PathSteps

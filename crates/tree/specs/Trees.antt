@@ -76,4 +76,4 @@ shape n i = shape-under (tree n) i
 
 -- the shape of a second under publication p, whose calendar has the seconds 0 to p
 abbrev pub second-shape : ℕ → ℕ → List Side
-second-shape p second = shape (suc p) second
+second-shape p second = shape (p + 1) second

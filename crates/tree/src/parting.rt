@@ -24,8 +24,5 @@ pub fn split(n: u32) -> Option<u32>
     ensures law { λ _. ⌜ Split-law ⌝ }
 {
     let left = left_part(n as usize);
-    if n < 2 {
-        return None;
-    }
-    Some(left as u32)
+    if n > 1 { Some(left as u32) } else { None }
 }

@@ -25,8 +25,11 @@ under-right : (left right : Tree) (i : ℕ) → leaves left ≤ i
     → shape-under (node left right) i ≡ shape-under right (i - leaves left) ++ Left ∷ []
 under-right left right i h = cond-false (ltb i (leaves left)) _ _ (le-ltb i (leaves left) h)
 
-pub shape-one : (n i : ℕ) → n ≡ 1 → shape n i ≡ []
-shape-one n i e = ap (λ t. shape-under t i) (ap tree e ∙ tree-leaf)
+pub shape-none : (n i : ℕ) → n ≤ 1 → shape n i ≡ []
+unfolding tree grown
+shape-none zero i h = refl
+shape-none (suc zero) i h = refl
+shape-none (suc (suc n)) i h = absurd (omega arith)
 
 -- a place in the left part
 pub shape-left : (n k i : ℕ) → 2 ≤ n → k ≡ split n → i < k → shape n i ≡ shape k i ++ Right ∷ []
@@ -42,6 +45,12 @@ shape-right n k i h e l =
     let whole : tree n ≡ node (tree k) (tree (n - k)) = rw e (tree-node n h) in
     ap (λ t. shape-under t i) whole
     ∙ (under-right (tree k) (tree (n - k)) i (omega (arith, size)) ∙ ap (λ m. shape-under (tree (n - k)) (i - m) ++ Left ∷ []) size)
+
+pub length-left : (n k i : ℕ) → 2 ≤ n → k ≡ split n → i < k → length (shape n i) ≡ length (shape k i) + 1
+length-left n k i h e l = ap length (shape-left n k i h e l) ∙ length-push (shape k i) Right
+
+pub length-right : (n k i : ℕ) → 2 ≤ n → k ≡ split n → k ≤ i → length (shape n i) ≡ length (shape (n - k) (i - k)) + 1
+length-right n k i h e l = ap length (shape-right n k i h e l) ∙ length-push (shape (n - k) (i - k)) Left
 
 -- two places with one shape are one place
 apart : (xs ys : List Side) → xs ++ Right ∷ [] ≡ ys ++ Left ∷ [] → ⊥
@@ -93,30 +102,22 @@ halves n j h b =
     (low, omega (arith, s .2))
 
 -- at most 2 ^ j leaves have at most j sides
-pub shape-short : (j n i : ℕ) → 1 ≤ n → n ≤ 2 ^ j → length (shape n i) ≤ j
-shape-short zero n i h b = let none = shape-one n i (omega arith) in omega (arith, ap length none)
-shape-short (suc j) n i h b =
+pub shape-short : (j n i : ℕ) → n ≤ 2 ^ j → length (shape n i) ≤ j
+shape-short zero n i b = omega (arith, ap length (shape-none n i (omega arith)))
+shape-short (suc j) n i b =
     elim (cases-lt 1 n) [
-      | inr one ↦ let none = shape-one n i (omega arith) in omega (arith, ap length none)
+      | inr one ↦ omega (arith, ap length (shape-none n i one))
       | inl more ↦
           let k : ℕ = split n in
-          let p = parts n more in
           let q = halves n j more b in
           elim (cases-lt i k) [
-            | inl l ↦
-                omega (arith, ap length (shape-left n k i more refl l), length-push (shape k i) Right, shape-short j k i (p .0) (q .0))
-            | inr r ↦
-                omega (
-                  arith,
-                  ap length (shape-right n k i more refl r),
-                  length-push (shape (n - k) (i - k)) Left,
-                  shape-short j (n - k) (i - k) (omega (arith, p .1)) (q .1),
-                )
+            | inl l ↦ omega (arith, length-left n k i more refl l, shape-short j k i (q .0))
+            | inr r ↦ omega (arith, length-right n k i more refl r, shape-short j (n - k) (i - k) (q .1))
           ]
     ]
 
 pub length-law : Length-law
-length-law p second h k = shape-short 31 (suc p) second (omega arith) (omega arith)
+length-law p second h k = shape-short 31 (p + 1) second (omega arith)
 
 -- no place among three has two sides to the left
 nowhere : (second : ℕ) → second ≤ 2 → second-shape 2 second ≡ Left ∷ Left ∷ [] → ⊥
