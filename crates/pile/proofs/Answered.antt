@@ -1,15 +1,18 @@
 -- Each answer, by what it is given for.
 use Prim.Native.Nat.{ℕ, _<_, _≤_}
 use mathlib.Core.Path.{_≡_, ap, _∙_}
+use mathlib.Core.Logic.{inl, inr}
 use mathlib.Core.Bool.{cond}
 use mathlib.Core.List.{List, []}
+use native.Mathlib.Omega.{arith}
 use lib.Dec.{ltb, leb}
 use lib.ListN.{length, getD}
 use Rattle.std.specs.declared.option.Option.the-variants.{Some, None}
 use Rattle.std.specs.declared.result.Result.the-variants.{Ok, Err}
-use Rattle.std.proofs.shelf.Tests.{cond-true, cond-false, lt-ltb, le-ltb, le-leb, lt-leb}
+use Rattle.std.proofs.shelf.Tests.{cond-true, cond-false, lt-ltb, le-ltb, le-leb, lt-leb, cases-lt}
 use Rattle.digest.specs.declared.value.Digest.{Digest}
 use Rattle.pile.specs.declared.refusal.CommitRefusal.the-variants.{TooMany, Full}
+use Rattle.pile.specs.declared.refusal.WayRefusal.{WayRefusal}
 use Rattle.pile.specs.declared.refusal.WayRefusal.the-variants.{Absent, Short}
 use Rattle.pile.specs.Meaning.{Meaning}
 use Rattle.pile.specs.Answers.{commit-answer, told, way-length, way-answer}
@@ -49,3 +52,23 @@ module _ (m : Meaning) (place : ℕ) where
       → way-answer m place room ≡ Ok (length (getD (m .ways) place []))
   way-fits room h k =
       way-there room h ∙ cond-false (ltb room (length (getD (m .ways) place []))) _ _ (le-ltb room (length (getD (m .ways) place [])) k)
+
+  -- what an answer tells of the place and the room
+  pub way-ok : (room count : ℕ) → way-answer m place room ≡ Ok count
+      → (place < length (m .round)) × (length (getD (m .ways) place []) ≤ room) × (count ≡ length (getD (m .ways) place []))
+  way-ok room count e =
+      elim (cases-lt place (length (m .round))) [
+        | inr past ↦ let no-way = way-absent room past in let z : _≡_ {A = ℕ} 0 1 = cc in absurd (omega arith)
+        | inl h ↦ elim (cases-lt room (length (getD (m .ways) place []))) [
+          | inl less ↦ let no-room = way-short room h less in let z : _≡_ {A = ℕ} 0 1 = cc in absurd (omega arith)
+          | inr enough ↦ let found = way-fits room h enough in (h, enough, cc)
+        ]
+      ]
+
+  pub way-err : (room : ℕ) (refusal : WayRefusal) → place < length (m .round) → way-answer m place room ≡ Err refusal
+      → (refusal ≡ Short) × (room < length (getD (m .ways) place []))
+  way-err room refusal h e =
+      elim (cases-lt room (length (getD (m .ways) place []))) [
+        | inl less ↦ let no-room = way-short room h less in (cc, less)
+        | inr enough ↦ let found = way-fits room h enough in let z : _≡_ {A = ℕ} 0 1 = cc in absurd (omega arith)
+      ]

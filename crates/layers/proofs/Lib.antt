@@ -1,0 +1,2 @@
+mod Ways
+mod Eights
