@@ -27,7 +27,7 @@ use Rattle.tree.proofs.ShapeLaws.{shape-short}
 use Rattle.pile.specs.Meaning.{Meaning, Sealed, Way, Law, Empty-law, round-join}
 use Rattle.pile.specs.Answers.{committed}
 use Rattle.layers.proofs.Ways.{followed-append, nth-is, Over}
-use Rattle.layers.specs.Grouping.{group, groups, group-root, group-roots, group-path, grouped-way, grouped-ways, grouped-round, grouping-meaning, grouping-seal}
+use Rattle.layers.specs.Grouping.{group, groups, group-root, group-roots, group-path, grouped-way, grouped-ways, grouped-round, grouping-meaning, grouping-fresh, grouping-seal}
 
 -- what is there, is its own value
 some-value : {A : Type 0} (o : Option A) (x d : A) → o ≡ Some x → o ≡ Some (valueOr o d)
@@ -197,3 +197,17 @@ module _ (digested : List ℕ → Digest) where
       → Empty-law digested (grouping-meaning digested items m)
   grouping-empty m items e law none =
       law (e ∙ ap (group-roots digested) (sym (uncut items (m .round) e) ∙ none))
+
+  -- a grouping that has stored no list
+  pub grouping-new : (m : Meaning) → grouping-meaning digested [] m ≡ grouping-fresh m
+  grouping-new m =
+      ap
+      (λ xs. record {
+        row = m .row;
+        round = xs;
+        ways = grouped-ways digested xs (m .ways);
+        most = min 256 (8 * m .most);
+        span = m .span;
+        deepest = 3 + m .deepest;
+      })
+      (take-all (8 * length (m .round)) [] (omega arith))

@@ -1,2 +1,3 @@
 mod Ways
 mod Eights
+mod Hidden

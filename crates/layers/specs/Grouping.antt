@@ -56,3 +56,15 @@ module _ (digested : List ℕ → Digest) where
   -- what a list gets, of what its groups' roots get below
   abbrev pub grouping-seal : List Digest → Sealed → Sealed
   grouping-seal items below = record { digest = below .digest; ways = grouped-ways items (below .ways) }
+
+-- what a grouping means that has stored no list: its last round is empty
+abbrev pub grouping-fresh : Meaning → Meaning
+grouping-fresh below =
+    record {
+      row = below .row;
+      round = [];
+      ways = [];
+      most = min 256 (8 * below .most);
+      span = below .span;
+      deepest = 3 + below .deepest;
+    }

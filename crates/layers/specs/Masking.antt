@@ -49,3 +49,15 @@ module _ (digested : List ℕ → Digest) (seed : Seed) (second : ℕ) where
   -- what a list gets, of what its masked items get below
   abbrev pub masking-seal : List Digest → Sealed → Sealed
   masking-seal items below = record { digest = below .digest; ways = masked-ways items (below .ways) }
+
+-- what a masking means that has stored no list: its last round is empty
+abbrev pub masking-fresh : Meaning → Meaning
+masking-fresh below =
+    record {
+      row = below .row;
+      round = [];
+      ways = [];
+      most = min 256 (below .most);
+      span = below .span;
+      deepest = 1 + below .deepest;
+    }

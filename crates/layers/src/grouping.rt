@@ -1,9 +1,8 @@
 // Grouping: a list of at most 256 digests goes down as the roots of its groups of eight.
 ghost use Prim.Native.Nat.{_*_};
 ghost use lib.ListN.{take};
-ghost use mathlib.Core.List.{[]};
 ghost use mathlib.Core.Path.{_≡_};
-ghost use Rattle.layers.specs.Grouping.{group-roots, grouping-meaning, grouping-seal};
+ghost use Rattle.layers.specs.Grouping.{group-roots, grouping-meaning, grouping-fresh, grouping-seal};
 use crate::behind::behind;
 use crate::groups::group_path;
 use crate::groups::group_roots;
@@ -25,7 +24,7 @@ impl<P: Pile> Grouping<P> {
     // A grouping over a pile, which has stored no list yet.
     pub fn over(below: P) -> Grouping<P>
         ensures pile { λ r. ⌜ r .below ≡ below ⌝ }
-        ensures stored { λ r. ⌜ take (r .stored .count) (r .stored .list) ≡ [] ⌝ }
+        ensures meaning { λ r. ⌜ grouping-meaning (Digester·Hash .digested) (take (r .stored .count) (r .stored .list)) (P·Pile .meaning (r .below)) ≡ grouping-fresh (P·Pile .meaning below) ⌝ }
     {
         Grouping {
             below,

@@ -2,7 +2,11 @@
 mod behind;
 mod grouping;
 mod groups;
+mod masking;
+mod masks;
 mod stored;
 
 pub use grouping::Grouping;
 pub use grouping::GroupingPile;
+pub use masking::Masking;
+pub use masking::MaskingPile;

@@ -25,7 +25,8 @@ impl Stored {
 
     // The digests, lent.
     pub(crate) fn items(&self) -> &[Digest]
-        ensures { λ r. ⌜ now r ≡ take (now (self .entry) .count) (now (self .entry) .list) ⌝ }
+        ensures value { λ r. ⌜ now r ≡ take (now (self .entry) .count) (now (self .entry) .list) ⌝ }
+        ensures short { λ r. ⌜ length (now r) ≤ 256 ⌝ }
     {
         &self.list[0..self.count]
     }

@@ -18,7 +18,7 @@ returns-then-place-items g c =
     let p = c .args .self .now in
     let m : Meaning = g .P·Pile .meaning (p .below) in
     let stored : List Digest = take (p .stored .count) (p .stored .list) in
-    let size = ap length (c .items-items .ensures) in
+    let size = ap length (c .items-items .ensures .value) in
     record {
       outcome = sym (way-absent (grouping-meaning (g .Digester·Hash .digested) stored m) (c .args .place) (length (c .args .links .now)) (omega (arith, size, length-take (8 * length (m .round)) stored)));
       after = refl;
@@ -34,11 +34,11 @@ returns g c =
     let stored : List Digest = take (p .stored .count) (p .stored .list) in
     let count : ℕ = c .group-path-count .result in
     let path : Way = c .group-path-count .last .links in
-    let inside : place < length stored = omega (arith, ap length (c .items-items .ensures)) in
+    let inside : place < length stored = omega (arith, ap length (c .items-items .ensures .value)) in
     let over = grouping-over digested stored m place inside in
     let whole : count - 0 ≡ count = omega arith in
     let front : take (count - 0) path ≡ group-path digested stored place =
-    ap (λ n. take n path) whole ∙ (c .group-path-count .ensures .links ∙ ap (λ xs. group-path digested xs place) (c .items-items .ensures)) in
+    ap (λ n. take n path) whole ∙ (c .group-path-count .ensures .links ∙ ap (λ xs. group-path digested xs place) (c .items-items .ensures .value)) in
     let answer = c .behind .ensures .outcome ∙ ap (λ ws. behind-answer m ws (place / 8) (length links)) front in
     record {
       outcome = answer ∙ same-answer over (length links);

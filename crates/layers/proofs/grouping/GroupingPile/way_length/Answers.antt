@@ -18,7 +18,7 @@ returns-then-place-items g c =
     let p = c .args .self .now in
     let m : Meaning = g .P·Pile .meaning (p .below) in
     let stored : List Digest = take (p .stored .count) (p .stored .list) in
-    let size = ap length (c .items-items .ensures) in
+    let size = ap length (c .items-items .ensures .value) in
     sym (length-absent (grouping-meaning (g .Digester·Hash .digested) stored m) (c .args .place) (omega (arith, size, length-take (8 * length (m .round)) stored)))
 
 pub returns-in-Some : need.returns-in-Some
@@ -28,8 +28,8 @@ returns-in-Some g c =
     let place : ℕ = c .args .place in
     let m : Meaning = g .P·Pile .meaning (p .below) in
     let stored : List Digest = take (p .stored .count) (p .stored .list) in
-    let inside : place < length stored = omega (arith, ap length (c .items-items .ensures)) in
-    let count = c .group-path-count .ensures .count ∙ ap (λ xs. length (group-path digested xs place)) (c .items-items .ensures) in
+    let inside : place < length stored = omega (arith, ap length (c .items-items .ensures .value)) in
+    let count = c .group-path-count .ensures .count ∙ ap (λ xs. length (group-path digested xs place)) (c .items-items .ensures .value) in
     ap Some (c .saturating-add .ensures ∙ ap (λ n. min (c .in-Some .rest + n) 255) count)
     ∙ sym (longer (grouping-over digested stored m place inside) (c .in-Some .rest) (sym (c .way-length .ensures) ∙ c .in-Some .is))
 
@@ -38,5 +38,5 @@ returns-in-None g c =
     let p = c .args .self .now in
     let m : Meaning = g .P·Pile .meaning (p .below) in
     let stored : List Digest = take (p .stored .count) (p .stored .list) in
-    let inside : c .args .place < length stored = omega (arith, ap length (c .items-items .ensures)) in
+    let inside : c .args .place < length stored = omega (arith, ap length (c .items-items .ensures .value)) in
     sym (gone (grouping-over (g .Digester·Hash .digested) stored m (c .args .place) inside) (sym (c .way-length .ensures) ∙ c .in-None .is))
