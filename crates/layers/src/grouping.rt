@@ -2,6 +2,7 @@
 ghost use Prim.Native.Nat.{_*_};
 ghost use lib.ListN.{take};
 ghost use mathlib.Core.Path.{_≡_};
+ghost use Rattle.layers.specs.Table.{Nine-table};
 ghost use Rattle.layers.specs.Grouping.{group-roots, grouping-meaning, grouping-fresh, grouping-seal};
 use crate::behind::behind;
 use crate::groups::group_path;
@@ -25,6 +26,7 @@ impl<P: Pile> Grouping<P> {
     pub fn over(below: P) -> Grouping<P>
         ensures pile { λ r. ⌜ r .below ≡ below ⌝ }
         ensures meaning { λ r. ⌜ grouping-meaning (Digester·Hash .digested) (take (r .stored .count) (r .stored .list)) (P·Pile .meaning (r .below)) ≡ grouping-fresh (P·Pile .meaning below) ⌝ }
+        ensures table { λ _. ⌜ Nine-table ⌝ }
     {
         Grouping {
             below,

@@ -2,6 +2,7 @@ use mathlib.Core.Path.{refl, ap, _∙_}
 use lib.ListN.{take}
 use Rattle.layers.specs.Grouping.{grouping-meaning}
 use Rattle.layers.proofs.Eights.{grouping-new}
+use Rattle.layers.proofs.Nine.{nine-table}
 use Rattle.layers.proofs.grouping.Grouping.over.Needs as need
 
 pub returns : need.returns
@@ -11,4 +12,5 @@ returns g c =
     record {
       pile = refl;
       meaning = ap (λ n. grouping-meaning digested (take n (c .none .result .list)) m) (c .none .ensures) ∙ grouping-new digested m;
+      table = nine-table;
     }
