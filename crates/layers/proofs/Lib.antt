@@ -1,0 +1,4 @@
+mod Ways
+mod Eights
+mod Hidden
+mod Nine

@@ -1,0 +1,4 @@
+pub mod Behind
+pub mod Grouping
+pub mod Masking
+pub mod Table

@@ -1,0 +1,12 @@
+// Layers over any pile: groups of eight, and masks.
+mod behind;
+mod grouping;
+mod groups;
+mod masking;
+mod masks;
+mod stored;
+
+pub use grouping::Grouping;
+pub use grouping::GroupingPile;
+pub use masking::Masking;
+pub use masking::MaskingPile;
