@@ -34,6 +34,18 @@ head-meaning records held filled =
       deepest = 0;
     }
 
+-- what a head means that holds no second yet
+abbrev pub head-fresh : List Digest → Meaning
+head-fresh records =
+    record {
+      row = [];
+      round = [];
+      ways = [];
+      most = 1;
+      span = head-span records;
+      deepest = 0;
+    }
+
 -- one digest enters as it is; an empty list is an empty second
 abbrev pub head-digest : (List ℕ → Digest) → List Digest → Digest
 head-digest digested [] = digested empty-message

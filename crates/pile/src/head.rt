@@ -1,7 +1,6 @@
 // The head, the bottom of every pile: its calendar memory is a row of records that the program lends.
-ghost use mathlib.Core.Bool.{false};
 ghost use mathlib.Core.Path.{_≡_};
-ghost use Rattle.pile.specs.Head.{head-meaning, head-digest, head-seal};
+ghost use Rattle.pile.specs.Head.{head-meaning, head-fresh, head-digest, head-seal};
 use crate::pile::Pile;
 use crate::records::Records;
 use crate::refusal::CommitRefusal;
@@ -12,6 +11,12 @@ use digest::empty_second;
 use std::marker::PhantomData;
 use tree::Link;
 
+// The longest list that it takes.
+const MOST: usize = 1;
+
+// The links of its longest way.
+const DEEPEST: u8 = 0;
+
 #[derive(Drop)]
 pub struct Head<'a, D> {
     records: Records<'a>,
@@ -21,7 +26,7 @@ pub struct Head<'a, D> {
 impl<'a, D: Hash> Head<'a, D> {
     // A head over these records, which holds no second yet.
     pub fn over(records: &'a mut [Digest]) -> Head<'a, D>
-        ensures { λ r. ⌜ head-meaning (now (r .records .lent)) (r .records .held) (r .records .filled) ≡ head-meaning (now (records .entry)) 0 false ⌝ }
+        ensures { λ r. ⌜ head-meaning (now (r .records .lent)) (r .records .held) (r .records .filled) ≡ head-fresh (now (records .entry)) ⌝ }
     {
         Head {
             records: Records::over(records),
@@ -48,7 +53,7 @@ pub impl<D: Hash> Pile for Head<'_, D> as HeadPile {
     ghost seal = { λ p. head-seal (D·Hash .digested) };
 
     fn commit(&mut self, list: &[Digest]) -> Result<(), CommitRefusal> {
-        if list.len() > 1 {
+        if list.len() > MOST {
             return Err(CommitRefusal::TooMany);
         }
         if self.records.full() {
@@ -84,7 +89,7 @@ pub impl<D: Hash> Pile for Head<'_, D> as HeadPile {
     }
 
     fn most(&self) -> usize {
-        1
+        MOST
     }
 
     fn span(&self) -> u32 {
@@ -92,6 +97,6 @@ pub impl<D: Hash> Pile for Head<'_, D> as HeadPile {
     }
 
     fn deepest(&self) -> u8 {
-        0
+        DEEPEST
     }
 }
