@@ -1,11 +1,9 @@
 // The secret from which masks are made: 32 bytes.
-ghost use lib.ListN.{length};
 ghost use mathlib.Core.Path.{_≡_};
 
 #[derive(Clone, Copy)]
 pub struct Seed {
     bytes: [u8; 32],
-    ghost whole: { length bytes ≡ 32 },
 }
 
 impl Seed {

@@ -1,7 +1,7 @@
 // Grouping: a list of at most 256 digests goes down as the roots of its groups of eight.
-ghost use Prim.Native.Nat.{_*_};
-ghost use lib.ListN.{take};
 ghost use mathlib.Core.Path.{_≡_};
+ghost use Rattle.std.specs.Vec.{made, refused};
+ghost use Rattle.layers.specs.Kept.{stored-items};
 ghost use Rattle.layers.specs.Table.{Nine-table};
 ghost use Rattle.layers.specs.Grouping.{group-roots, grouping-meaning, grouping-fresh, grouping-seal};
 use crate::behind::behind;
@@ -12,6 +12,8 @@ use digest::Digest;
 use pile::CommitRefusal;
 use pile::Pile;
 use pile::WayRefusal;
+use std::alloc::Global;
+use std::alloc::Refused;
 use tree::Link;
 use tree::Side;
 
@@ -22,15 +24,16 @@ pub struct Grouping<P> {
 }
 
 impl<P: Pile> Grouping<P> {
-    // A grouping over a pile, which has stored no list yet.
-    pub fn over(below: P) -> Grouping<P>
-        ensures pile { λ r. ⌜ r .below ≡ below ⌝ }
-        ensures meaning { λ r. ⌜ grouping-meaning (Digester·Hash .digested) (take (r .stored .count) (r .stored .list)) (P·Pile .meaning (r .below)) ≡ grouping-fresh (P·Pile .meaning below) ⌝ }
+    // A grouping over a pile, which has stored no list yet; without memory for it, the pile is handed back.
+    pub fn over(heap: Global, below: P) -> Result<Grouping<P>, Refused<P>>
+        ensures pile { λ r. ⌜ made r (λ g. g .below ≡ below) ⌝ }
+        ensures meaning { λ r. ⌜ made r (λ g. grouping-meaning (Digester·Hash .digested) (stored-items (g .stored)) (P·Pile .meaning (g .below)) ≡ grouping-fresh (P·Pile .meaning below)) ⌝ }
+        ensures refused { λ r. ⌜ refused r (λ y. y .value ≡ below) ⌝ }
         ensures table { λ _. ⌜ Nine-table ⌝ }
     {
-        Grouping {
-            below,
-            stored: Stored::none(),
+        match Stored::none(heap) {
+            Ok(stored) => Ok(Grouping { below, stored }),
+            Err(_) => Err(Refused { value: below }),
         }
     }
 }
@@ -46,7 +49,7 @@ fn blank() -> [Link<Digest>; 3] {
 pub impl<P: Pile> Pile for Grouping<P> as GroupingPile {
     type Digester = P::Digester;
 
-    ghost meaning = { λ p. grouping-meaning (Digester·Hash .digested) (take (p .stored .count) (p .stored .list)) (P·Pile .meaning (p .below)) };
+    ghost meaning = { λ p. grouping-meaning (Digester·Hash .digested) (stored-items (p .stored)) (P·Pile .meaning (p .below)) };
 
     ghost seal = { λ p items. grouping-seal (Digester·Hash .digested) items (P·Pile .seal (p .below) (group-roots (Digester·Hash .digested) items)) };
 

@@ -4,6 +4,7 @@ mod grouping;
 mod groups;
 mod masking;
 mod masks;
+mod slots;
 mod stored;
 
 pub use grouping::Grouping;

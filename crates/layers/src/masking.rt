@@ -1,7 +1,8 @@
 // Masking: each item of a list of at most 256 goes down under a mask that is made from a seed.
-ghost use Prim.Native.Nat.{_*_};
-ghost use lib.ListN.{length, take};
+ghost use lib.ListN.{length};
 ghost use mathlib.Core.Path.{_≡_};
+ghost use Rattle.std.specs.Vec.{made, refused};
+ghost use Rattle.layers.specs.Kept.{stored-items};
 ghost use Rattle.layers.specs.Masking.{masked, masking-meaning, masking-fresh, masking-seal};
 use crate::behind::behind;
 use crate::masks::hide;
@@ -12,6 +13,8 @@ use digest::mask;
 use pile::CommitRefusal;
 use pile::Pile;
 use pile::WayRefusal;
+use std::alloc::Global;
+use std::alloc::Refused;
 use tree::Link;
 use tree::Side;
 
@@ -24,17 +27,21 @@ pub struct Masking<P> {
 }
 
 impl<P: Pile> Masking<P> {
-    // A masking over a pile, which has stored no list yet.
-    pub fn over(below: P, seed: Seed) -> Masking<P>
-        ensures pile { λ r. ⌜ r .below ≡ below ⌝ }
-        ensures seed { λ r. ⌜ r .seed ≡ seed ⌝ }
-        ensures meaning { λ r. ⌜ masking-meaning (Digester·Hash .digested) (r .seed) (r .second) (take (r .stored .count) (r .stored .list)) (P·Pile .meaning (r .below)) ≡ masking-fresh (P·Pile .meaning below) ⌝ }
+    // A masking over a pile, which has stored no list yet; without memory for it, the pile is handed back.
+    pub fn over(heap: Global, below: P, seed: Seed) -> Result<Masking<P>, Refused<P>>
+        ensures pile { λ r. ⌜ made r (λ m. m .below ≡ below) ⌝ }
+        ensures seed { λ r. ⌜ made r (λ m. m .seed ≡ seed) ⌝ }
+        ensures meaning { λ r. ⌜ made r (λ m. masking-meaning (Digester·Hash .digested) (m .seed) (m .second) (stored-items (m .stored)) (P·Pile .meaning (m .below)) ≡ masking-fresh (P·Pile .meaning below)) ⌝ }
+        ensures refused { λ r. ⌜ refused r (λ y. y .value ≡ below) ⌝ }
     {
-        Masking {
-            below,
-            seed,
-            second: 0,
-            stored: Stored::none(),
+        match Stored::none(heap) {
+            Ok(stored) => Ok(Masking {
+                below,
+                seed,
+                second: 0,
+                stored,
+            }),
+            Err(_) => Err(Refused { value: below }),
         }
     }
 }
@@ -42,7 +49,7 @@ impl<P: Pile> Masking<P> {
 pub impl<P: Pile> Pile for Masking<P> as MaskingPile {
     type Digester = P::Digester;
 
-    ghost meaning = { λ p. masking-meaning (Digester·Hash .digested) (p .seed) (p .second) (take (p .stored .count) (p .stored .list)) (P·Pile .meaning (p .below)) };
+    ghost meaning = { λ p. masking-meaning (Digester·Hash .digested) (p .seed) (p .second) (stored-items (p .stored)) (P·Pile .meaning (p .below)) };
 
     ghost seal = { λ p items. masking-seal (Digester·Hash .digested) (p .seed) (length (P·Pile .meaning (p .below) .row)) items (P·Pile .seal (p .below) (masked (Digester·Hash .digested) (p .seed) (length (P·Pile .meaning (p .below) .row)) items)) };
 

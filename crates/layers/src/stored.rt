@@ -1,43 +1,42 @@
-// The list of the last round as a layer keeps it: at most 256 digests.
+// The list of the last round as a layer keeps it: at most 256 digests, in memory that is taken once, before the first commit.
 ghost use Prim.Native.Nat.{_≤_};
-ghost use lib.ListN.{length, take};
+ghost use lib.ListN.{length};
+ghost use mathlib.Core.List.{[]};
 ghost use mathlib.Core.Path.{_≡_};
+ghost use Rattle.std.specs.Vec.{made};
+ghost use Rattle.layers.specs.Kept.{stored-items};
+use crate::slots::Slots;
 use digest::Digest;
+use std::alloc::AllocError;
+use std::alloc::Global;
 
 #[derive(Drop)]
 pub(crate) struct Stored {
-    list: [Digest; 256],
-    count: usize,
-    ghost whole: { length list ≡ 256 },
-    ghost fits: { count ≤ 256 },
+    slots: Box<Slots>,
 }
 
 impl Stored {
     // No digest yet.
-    pub(crate) fn none() -> Stored
-        ensures { λ r. ⌜ r .count ≡ 0 ⌝ }
+    pub(crate) fn none(heap: Global) -> Result<Stored, AllocError>
+        ensures { λ r. ⌜ made r (λ s. stored-items s ≡ []) ⌝ }
     {
-        Stored {
-            list: [Digest::of([0; 32]); 256],
-            count: 0,
-        }
+        let slots = Box::new(heap, Slots::none())?;
+        Ok(Stored { slots })
     }
 
     // The digests, lent.
     pub(crate) fn items(&self) -> &[Digest]
-        ensures value { λ r. ⌜ now r ≡ take (now (self .entry) .count) (now (self .entry) .list) ⌝ }
+        ensures value { λ r. ⌜ now r ≡ stored-items (now (self .entry)) ⌝ }
         ensures short { λ r. ⌜ length (now r) ≤ 256 ⌝ }
     {
-        &self.list[0..self.count]
+        self.slots.items()
     }
 
     // Keeps these digests in the place of the others.
     pub(crate) fn store(&mut self, items: &[Digest])
         requires { ⌜ length (now items) ≤ 256 ⌝ }
-        ensures { λ _. ⌜ take (now (self .exit) .count) (now (self .exit) .list) ≡ now (items .entry) ⌝ }
+        ensures { λ _. ⌜ stored-items (now (self .exit)) ≡ now (items .entry) ⌝ }
     {
-        let count = items.len();
-        self.list[0..count].copy_from_slice(items);
-        self.count = count;
+        self.slots.store(items);
     }
 }

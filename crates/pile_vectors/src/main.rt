@@ -137,58 +137,56 @@ fn rounds<P: Pile + Drop>(rt: &LibcRuntime, label: &str, mut pile: P) -> Result<
     Ok(())
 }
 
-fn stacks<H: Hash>(rt: &LibcRuntime, name: &str) -> Result<(), AnyError> {
+// The seed of the upper masking, and of the lower one.
+const UPPER: u8 = 100;
+
+const LOWER: u8 = 7;
+
+fn groupings<H: Hash>(rt: &LibcRuntime, name: &str, row: &mut [Digest]) -> Result<(), AnyError> {
     let heap = rt.alloc();
-    let seed = Seed::of(counted(100));
-    let mut row = [Digest::of([0; 32]); SECONDS];
     let label = format!(heap, "{name} head")?;
-    rounds(rt, label.as_str(), Head::<H>::over(&mut row))?;
+    rounds(rt, label.as_str(), Head::<H>::over(row))?;
     let label = format!(heap, "{name} grouping")?;
     rounds(
         rt,
         label.as_str(),
-        Grouping::over(Head::<H>::over(&mut row)),
+        Grouping::over(heap, Head::<H>::over(row))?,
     )?;
     let label = format!(heap, "{name} grouping grouping")?;
-    rounds(
-        rt,
-        label.as_str(),
-        Grouping::over(Grouping::over(Head::<H>::over(&mut row))),
-    )?;
+    let two = Grouping::over(heap, Grouping::over(heap, Head::<H>::over(row))?)?;
+    rounds(rt, label.as_str(), two)?;
     let label = format!(heap, "{name} grouping grouping grouping")?;
-    rounds(
-        rt,
-        label.as_str(),
-        Grouping::over(Grouping::over(Grouping::over(Head::<H>::over(&mut row)))),
-    )?;
+    let two = Grouping::over(heap, Grouping::over(heap, Head::<H>::over(row))?)?;
+    rounds(rt, label.as_str(), Grouping::over(heap, two)?)
+}
+
+fn maskings<H: Hash>(rt: &LibcRuntime, name: &str, row: &mut [Digest]) -> Result<(), AnyError> {
+    let heap = rt.alloc();
+    let upper = Seed::of(counted(UPPER));
+    let lower = Seed::of(counted(LOWER));
     let label = format!(heap, "{name} masking grouping grouping")?;
-    rounds(
-        rt,
-        label.as_str(),
-        Masking::over(
-            Grouping::over(Grouping::over(Head::<H>::over(&mut row))),
-            seed,
-        ),
-    )?;
+    let two = Grouping::over(heap, Grouping::over(heap, Head::<H>::over(row))?)?;
+    rounds(rt, label.as_str(), Masking::over(heap, two, upper)?)?;
     let label = format!(heap, "{name} grouping masking grouping grouping")?;
+    let two = Grouping::over(heap, Grouping::over(heap, Head::<H>::over(row))?)?;
     rounds(
         rt,
         label.as_str(),
-        Grouping::over(Masking::over(
-            Grouping::over(Grouping::over(Head::<H>::over(&mut row))),
-            seed,
-        )),
+        Grouping::over(heap, Masking::over(heap, two, upper)?)?,
     )?;
     let label = format!(heap, "{name} masking masking grouping")?;
-    let other = Seed::of(counted(7));
+    let one = Grouping::over(heap, Head::<H>::over(row))?;
     rounds(
         rt,
         label.as_str(),
-        Masking::over(
-            Masking::over(Grouping::over(Head::<H>::over(&mut row)), other),
-            seed,
-        ),
+        Masking::over(heap, Masking::over(heap, one, lower)?, upper)?,
     )
+}
+
+fn stacks<H: Hash>(rt: &LibcRuntime, name: &str) -> Result<(), AnyError> {
+    let mut row = [Digest::of([0; 32]); SECONDS];
+    groupings::<H>(rt, name, &mut row)?;
+    maskings::<H>(rt, name, &mut row)
 }
 
 fn run(rt: &LibcRuntime) -> Result<(), AnyError> {

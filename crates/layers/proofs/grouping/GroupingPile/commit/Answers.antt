@@ -10,6 +10,7 @@ use Rattle.pile.specs.Answers.{committed}
 use Rattle.pile.proofs.Answered.{served}
 use Rattle.layers.specs.Grouping.{group-roots, grouping-meaning, grouping-seal}
 use Rattle.layers.proofs.Eights.{grouping-after, grouping-law, grouping-empty}
+use Rattle.layers.specs.Kept.{stored-items}
 use Rattle.layers.proofs.grouping.GroupingPile.commit.Needs as need
 
 pub returns : need.returns
@@ -18,7 +19,7 @@ returns g c =
     let p = c .args .self .now in
     let items : List Digest = c .args .list .now in
     let m : Meaning = g .P·Pile .meaning (p .below) in
-    let stored : List Digest = take (p .stored .count) (p .stored .list) in
+    let stored : List Digest = stored-items (p .stored) in
     let seal = g .P·Pile .seal (p .below) in
     let next : Meaning = g .P·Pile .meaning (c .commit .last .self) in
     let count : ℕ = c .group-roots-count .result in

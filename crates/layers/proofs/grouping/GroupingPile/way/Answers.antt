@@ -11,13 +11,14 @@ use Rattle.layers.specs.Behind.{behind-answer, behind-written}
 use Rattle.layers.specs.Grouping.{group-path, grouping-meaning}
 use Rattle.layers.proofs.Ways.{same-answer, same-written}
 use Rattle.layers.proofs.Eights.{grouping-over}
+use Rattle.layers.specs.Kept.{stored-items}
 use Rattle.layers.proofs.grouping.GroupingPile.way.Needs as need
 
 pub returns-then-place-items : need.returns-then-place-items
 returns-then-place-items g c =
     let p = c .args .self .now in
     let m : Meaning = g .P·Pile .meaning (p .below) in
-    let stored : List Digest = take (p .stored .count) (p .stored .list) in
+    let stored : List Digest = stored-items (p .stored) in
     let size = ap length (c .items-items .ensures .value) in
     record {
       outcome = sym (way-absent (grouping-meaning (g .Digester·Hash .digested) stored m) (c .args .place) (length (c .args .links .now)) (omega (arith, size, length-take (8 * length (m .round)) stored)));
@@ -31,7 +32,7 @@ returns g c =
     let place : ℕ = c .args .place in
     let links : Way = c .args .links .now in
     let m : Meaning = g .P·Pile .meaning (p .below) in
-    let stored : List Digest = take (p .stored .count) (p .stored .list) in
+    let stored : List Digest = stored-items (p .stored) in
     let count : ℕ = c .group-path-count .result in
     let path : Way = c .group-path-count .last .links in
     let inside : place < length stored = omega (arith, ap length (c .items-items .ensures .value)) in

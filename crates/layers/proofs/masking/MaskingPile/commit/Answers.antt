@@ -11,6 +11,7 @@ use Rattle.pile.specs.Answers.{committed}
 use Rattle.pile.proofs.Answered.{served}
 use Rattle.layers.specs.Masking.{masked, masking-meaning, masking-seal}
 use Rattle.layers.proofs.Hidden.{masking-after, masking-law, masking-empty}
+use Rattle.layers.specs.Kept.{stored-items}
 use Rattle.layers.proofs.masking.MaskingPile.commit.Needs as need
 
 pub returns : need.returns
@@ -20,7 +21,7 @@ returns g c =
     let seed : Seed = p .seed in
     let items : List Digest = c .args .list .now in
     let m : Meaning = g .P·Pile .meaning (p .below) in
-    let before : Meaning = masking-meaning digested seed (p .second) (take (p .stored .count) (p .stored .list)) m in
+    let before : Meaning = masking-meaning digested seed (p .second) (stored-items (p .stored)) m in
     let seal = g .P·Pile .seal (p .below) in
     let next : Meaning = g .P·Pile .meaning (c .commit .last .self) in
     let second : ℕ = c .seconds-second .result in
@@ -40,7 +41,7 @@ returns g c =
       after =
           kept
           ∙ (ap (masking-meaning digested seed second items) below
-          ∙ (masking-after digested seed second m items (seal hidden) (p .second) (take (p .stored .count) (p .stored .list))
+          ∙ (masking-after digested seed second m items (seal hidden) (p .second) (stored-items (p .stored))
           ∙ ap (λ s. committed before items (masking-seal digested seed s items (seal (masked digested seed s items))) (Ok tt)) (c .seconds-second .ensures .value)));
       law = λ _. subst (Law digested) (sym kept) (masking-law digested seed second next items round (c .commit .ensures .law (c .in-Ok .is)));
       empty = λ _. subst (Empty-law digested) (sym kept) (masking-empty digested seed second next items round (c .commit .ensures .empty (c .in-Ok .is)));

@@ -3,6 +3,7 @@ use lib.ListN.{take}
 use Rattle.pile.specs.Meaning.{Meaning}
 use Rattle.layers.specs.Masking.{masked-round}
 use Rattle.layers.proofs.Hidden.{masked-short}
+use Rattle.layers.specs.Kept.{stored-items}
 use Rattle.layers.proofs.masking.MaskingPile.deepest.Needs as need
 
 pub returns : need.returns
@@ -10,7 +11,7 @@ returns g c =
     let digested = g .Digester·Hash .digested in
     let p = c .args .self .now in
     let m : Meaning = g .P·Pile .meaning (p .below) in
-    let stored = take (p .stored .count) (p .stored .list) in
+    let stored = stored-items (p .stored) in
     let round = masked-round digested (p .seed) (p .second) stored (m .round) in
     record {
       short = masked-short digested (p .seed) (p .second) round (m .ways) (m .deepest) (c .deepest .ensures .short);

@@ -11,13 +11,14 @@ use Rattle.pile.proofs.Answered.{length-absent}
 use Rattle.layers.specs.Masking.{masking-meaning}
 use Rattle.layers.proofs.Ways.{longer, gone}
 use Rattle.layers.proofs.Hidden.{masking-over}
+use Rattle.layers.specs.Kept.{stored-items}
 use Rattle.layers.proofs.masking.MaskingPile.way_length.Needs as need
 
 pub returns-then-place-items : need.returns-then-place-items
 returns-then-place-items g c =
     let p = c .args .self .now in
     let m : Meaning = g .P·Pile .meaning (p .below) in
-    let stored : List Digest = take (p .stored .count) (p .stored .list) in
+    let stored : List Digest = stored-items (p .stored) in
     let size = ap length (c .items .ensures .value) in
     sym (length-absent (masking-meaning (g .Digester·Hash .digested) (p .seed) (p .second) stored m) (c .args .place) (omega (arith, size, length-take (length (m .round)) stored)))
 
@@ -26,7 +27,7 @@ returns-in-Some g c =
     let p = c .args .self .now in
     let place : ℕ = c .args .place in
     let m : Meaning = g .P·Pile .meaning (p .below) in
-    let stored : List Digest = take (p .stored .count) (p .stored .list) in
+    let stored : List Digest = stored-items (p .stored) in
     let inside : place < length stored = omega (arith, ap length (c .items .ensures .value)) in
     let over = masking-over (g .Digester·Hash .digested) (p .seed) (p .second) stored m place inside in
     ap Some (c .saturating-add .ensures) ∙ sym (longer over (c .in-Some .rest) (sym (c .way-length .ensures) ∙ c .in-Some .is))
@@ -35,7 +36,7 @@ pub returns-in-None : need.returns-in-None
 returns-in-None g c =
     let p = c .args .self .now in
     let m : Meaning = g .P·Pile .meaning (p .below) in
-    let stored : List Digest = take (p .stored .count) (p .stored .list) in
+    let stored : List Digest = stored-items (p .stored) in
     let inside : c .args .place < length stored = omega (arith, ap length (c .items .ensures .value)) in
     let over = masking-over (g .Digester·Hash .digested) (p .seed) (p .second) stored m (c .args .place) inside in
     sym (gone over (sym (c .way-length .ensures) ∙ c .in-None .is))

@@ -4,7 +4,7 @@ use mathlib.Core.List.{_++_}
 use native.Mathlib.Omega.{arith}
 use lib.ListN.{length, drop}
 use Rattle.std.proofs.shelf.Lists.{length-append, length-drop, take-at}
-use Rattle.layers.proofs.stored.Stored.store.Needs as need
+use Rattle.layers.proofs.slots.Slots.store.Needs as need
 
 pub ghost-self : need.ghost-self
 ghost-self c =
