@@ -37,8 +37,8 @@ pub(crate) fn feed<J: Joining>(forest: &mut Forest<J::Node>, node: J::Node)
     let mut peak = node;
     while rest % 2 == 1 {
         top -= 1;
-        let before = forest.peaks[top];
-        peak = J::join(&before, &peak);
+        let last = forest.peaks[top];
+        peak = J::join(&last, &peak);
         rest /= 2;
     }
     forest.peaks[top] = peak;

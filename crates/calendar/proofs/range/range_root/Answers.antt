@@ -2,8 +2,6 @@ use Prim.Native.Nat.{ℕ, _+_, _≤_}
 use mathlib.Core.Path.{_≡_, refl, sym, ap, subst, _∙_}
 use native.Mathlib.Omega.{arith}
 use lib.ListN.{length}
-use prog.Memory.{align, size}
-use denote.Memory.{lone}
 use Rattle.std.proofs.shelf.Edits.{length-between}
 use Rattle.std.specs.declared.option.Option.the-variants.{Some}
 use Rattle.std.specs.shelf.Lists.{between}
@@ -14,9 +12,7 @@ use Rattle.calendar.proofs.Rows.{nth-none, nth-some, range-more, range-first}
 use Rattle.calendar.proofs.range.range_root.Needs as need
 
 pub planted-forest-requires : need.planted-forest-requires
-planted-forest-requires g c κs =
-    let small = g .Node·Small·met .small in
-    forest-size (align (lone (g .J·Node .mir))) (size (lone (g .J·Node .mir))) (small .0) (small .1)
+planted-forest-requires g c κs = forest-size (g .J·Node) (g .Node·Small·met .small)
 
 pub returns-in-rest : need.returns-in-rest
 returns-in-rest g c =
@@ -43,11 +39,10 @@ returns-in-rest-at g c =
 
 pub feed-requires : need.feed-requires
 feed-requires g c κs =
-    let small = g .Node·Small·met .small in
     let row = g .R·Row .row (c .args .row .now) in
     let read = between (c .args .low) (c .loop-place .place) row in
     let holds = c .loop-place .inv .0 in (
-      forest-size (align (lone (g .J·Node .mir))) (size (lone (g .J·Node .mir))) (small .0) (small .1),
+      forest-size (g .J·Node) (g .Node·Small·met .small),
       ((read, holds), omega (arith, holds .2, length-between row (c .args .low) (c .loop-place .place) (c .loop-place .inv .1))),
     )
 
@@ -65,10 +60,9 @@ loop-place-again g c =
 
 pub whole-requires : need.whole-requires
 whole-requires g c κs =
-    let small = g .Node·Small·met .small in
     let row = g .R·Row .row (c .args .row .now) in
     let read = between (c .args .low) (c .loop-place .place) row in
     let holds = c .loop-place .inv .0 in (
-      forest-size (align (lone (g .J·Node .mir))) (size (lone (g .J·Node .mir))) (small .0) (small .1),
+      forest-size (g .J·Node) (g .Node·Small·met .small),
       ((read, holds), omega (arith, holds .2, length-between row (c .args .low) (c .loop-place .place) (c .loop-place .inv .1))),
     )
