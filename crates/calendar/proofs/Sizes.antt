@@ -2,7 +2,7 @@
 use Prim.Native.Nat.{ℕ, _+_, _-_, _*_, _%_, _^_, max, _<_, _≤_}
 use native.Mathlib.Omega.{arith}
 use native.Mathlib.Nat.{mod-le, max-le}
-use prog.Memory.{pad, up, align, size}
+use prog.Memory.{up, align, size}
 use denote.RattleType.{RattleType}
 use denote.Param.{layout}
 use Rattle.calendar.specs.Small.{Few-bytes}

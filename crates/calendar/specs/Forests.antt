@@ -5,6 +5,7 @@ use mathlib.Core.List.{List, [], _∷_, _++_}
 use lib.ListN.{length, take}
 use Rattle.std.specs.declared.option.Option.the-variants.{Some}
 use Rattle.tree.specs.Trees.{root}
+use Rattle.calendar.specs.declared.forest.Forest.{Forest}
 
 -- y is the root over nodes, 2 ^ h of them
 abbrev pub Perfect : {N : Type 0} → (N → N → N) → ℕ → List N → N → Type 0
@@ -19,10 +20,14 @@ pub data Stands {N : Type 0} (join : N → N → N) : ℕ → ℕ → List N →
       → Stands join (suc h) c before early → Perfect join h late y → peaks ≡ before ++ y ∷ [] → nodes ≡ early ++ late
       → Stands join h n peaks nodes
 
--- the first `top` of 32 peaks are the trees over the nodes, `count` of them
-abbrev pub Holds : {N : Type 0} → (N → N → N) → List N → ℕ → ℕ → List N → Type 0
-Holds join peaks top count nodes = (length peaks ≡ 32) × (top ≤ 32) × (count ≡ length nodes) × Stands join 0 count (take top peaks) nodes
+-- the forest's first `top` peaks, of 32, are the trees over the nodes, and it has counted them
+abbrev pub Holds : {N : Type 0} → (N → N → N) → Forest N → List N → Type 0
+Holds join forest nodes =
+    (length (forest .peaks) ≡ 32)
+    × (forest .top ≤ 32)
+    × (forest .count ≡ length nodes)
+    × Stands join 0 (forest .count) (take (forest .top) (forest .peaks)) nodes
 
 -- over some nodes
-abbrev pub Sound : {N : Type 0} → (N → N → N) → List N → ℕ → ℕ → Type 0
-Sound {N} join peaks top count = (nodes : List N) × Holds join peaks top count nodes
+abbrev pub Sound : {N : Type 0} → (N → N → N) → Forest N → Type 0
+Sound {N} join forest = (nodes : List N) × Holds join forest nodes

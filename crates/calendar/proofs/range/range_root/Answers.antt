@@ -1,11 +1,8 @@
-use Prim.Native.Nat.{ℕ, _+_, _≤_}
-use mathlib.Core.Path.{_≡_, refl, sym, ap, subst, _∙_}
+use Prim.Native.Nat.{ℕ}
+use mathlib.Core.Path.{refl, sym, subst}
 use native.Mathlib.Omega.{arith}
-use lib.ListN.{length}
 use Rattle.std.proofs.shelf.Edits.{length-between}
-use Rattle.std.specs.declared.option.Option.the-variants.{Some}
 use Rattle.std.specs.shelf.Lists.{between}
-use Rattle.tree.specs.Trees.{root}
 use Rattle.calendar.specs.Forests.{Holds}
 use Rattle.calendar.proofs.Sizes.{forest-size}
 use Rattle.calendar.proofs.Rows.{nth-none, nth-some, range-more, range-first}
@@ -26,7 +23,7 @@ loop-place-holds g c =
     let row = g .R·Row .row (c .args .row .now) in
     let forest = c .planted-forest .result in
     let at = c .in-Some .ensures tt in (
-      subst (Holds (g .J·Joining .joined) (forest .peaks) (forest .top) (forest .count)) (sym (range-first row (c .args .low) (c .in-Some .first) at)) (c .planted-forest .ensures),
+      subst (Holds (g .J·Joining .joined) forest) (sym (range-first row (c .args .low) (c .in-Some .first) at)) (c .planted-forest .ensures),
       omega (arith, nth-some row (c .args .low) (c .in-Some .first) at .0),
     )
 
@@ -52,7 +49,7 @@ loop-place-again g c =
     let forest = c .feed .last .forest in
     let place : ℕ = c .loop-place .place in
     let at = c .in-Some-at .ensures tt in (
-      subst (Holds (g .J·Joining .joined) (forest .peaks) (forest .top) (forest .count))
+      subst (Holds (g .J·Joining .joined) forest)
           (sym (range-more row (c .args .low) place (c .in-Some-at .node) (omega arith) at))
           (c .feed .ensures (between (c .args .low) place row) (c .loop-place .inv .0)),
       omega (arith, nth-some row place (c .in-Some-at .node) at .0),
