@@ -12,7 +12,7 @@ abbrev pub Perfect : {N : Type 0} → (N → N → N) → ℕ → List N → N �
 Perfect join h nodes y = (length nodes ≡ 2 ^ h) × (root join nodes ≡ Some y)
 
 -- the peaks are the roots of the trees over the nodes, in their order: the binary digits of n say how tall they are,
--- a digit 1 at 2 ^ i being a tree over 2 ^ (h + i) nodes
+-- a digit 1 at 2 ^ i being a tree over 2 ^ (h + i) nodes; n has no digits, or a last digit 0 or 1
 pub data Stands {N : Type 0} (join : N → N → N) : ℕ → ℕ → List N → List N → Type 0 where
   bare : {h : ℕ} → Stands join h 0 [] []
   even : {h n : ℕ} {peaks nodes : List N} (c : ℕ) → n ≡ 2 * c → Stands join (suc h) c peaks nodes → Stands join h n peaks nodes
