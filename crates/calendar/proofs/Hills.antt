@@ -4,9 +4,9 @@ use mathlib.Core.Path.{_≡_, refl, sym, ap, subst, _∙_}
 use mathlib.Core.Logic.{inl, inr}
 use mathlib.Core.List.{List, [], _∷_, _++_}
 use native.Mathlib.Omega.{arith}
-use lib.ListN.{length, getD, set, take, drop}
+use lib.ListN.{length, getD, set, take}
 use lib.Pow.{pow-pos, pow-mono}
-use Rattle.std.proofs.shelf.Lists.{append-assoc, append-nil, length-append, length-push, length-take-le, length-set, take-at, drop-at, take-more, take-more-set, same-from-push, nil-from-length}
+use Rattle.std.proofs.shelf.Lists.{append-assoc, length-append, length-push, length-take-le, take-at, drop-at, take-more, take-more-set, same-from-push}
 use Rattle.std.proofs.shelf.Tests.{cases-lt}
 use Rattle.std.specs.declared.option.Option.the-variants.{Some}
 use Rattle.tree.specs.Split.{Splits, split}
@@ -14,6 +14,7 @@ use Rattle.tree.specs.Trees.{root}
 use Rattle.tree.proofs.Splits.{split-splits, splits-unique, twice}
 use Rattle.tree.proofs.Roots.{root-one, root-more}
 use Rattle.calendar.specs.Forests.{Perfect, Stands, bare, even, odd, Holds}
+use Rattle.calendar.specs.declared.forest.Forest.{Forest}
 
 -- the first 2 ^ h nodes of at most twice as many are a part of the tree
 first-part : (h n : ℕ) → 2 ^ h < n → n ≤ 2 * 2 ^ h → 2 ^ h ≡ split n
@@ -168,9 +169,9 @@ module _ {N : Type 0} (join : N → N → N) where
   few (odd c before early late y is above perfect p q) (suc k) b =
       omega (arith, few above k (omega (arith, twice k)), ap length p, length-push before y)
 
-  module _ (peaks : List N) (top count : ℕ) (nodes : List N) where
-    pub carry-none : Holds join peaks top count nodes → (x : N) → Carried join peaks count top count x (nodes ++ x ∷ [])
-    carry-none holds x =
+  module _ (forest : Forest N) (nodes : List N) (holds : Holds join forest nodes) where
+    pub carry-none : (x : N) → Carried join (forest .peaks) (forest .count) (forest .top) (forest .count) x (nodes ++ x ∷ [])
+    carry-none x =
         record {
           height = 0;
           early = nodes;
@@ -183,23 +184,23 @@ module _ {N : Type 0} (join : N → N → N) where
         }
 
     -- below 2 ^ 31 nodes leave room for one more tree
-    pub room : Holds join peaks top count nodes → count < 2 ^ 31 → top < 32
-    room holds below =
-        omega (arith, few (holds .3) 31 below, length-take-le top peaks (omega (arith, holds .0, holds .1)), holds .1)
+    pub room : forest .count < 2 ^ 31 → forest .top < 32
+    room below =
+        omega (arith, few (holds .3) 31 below, length-take-le (forest .top) (forest .peaks) (omega (arith, holds .0, holds .1)), holds .1)
 
     -- trees where there are nodes
-    pub hang-some : Holds join peaks top count nodes → 0 < count → 1 ≤ top
-    hang-some holds some =
-        elim (cases-lt 0 top) [
+    pub hang-some : 0 < forest .count → 1 ≤ forest .top
+    hang-some some =
+        elim (cases-lt 0 (forest .top)) [
           | inl h ↦ h
           | inr none ↦
-              let no : top ≡ 0 = omega arith in
-              absurd (omega (arith, ap length (no-trees (holds .3) (ap (λ m. take m peaks) no)), holds .2))
+              let no : forest .top ≡ 0 = omega arith in
+              absurd (omega (arith, ap length (no-trees (holds .3) (ap (λ m. take m (forest .peaks)) no)), holds .2))
         ]
 
-    pub hang-none : Holds join peaks top count nodes → 0 < count → (d : N) → Hung join peaks (top - 1) (getD peaks (top - 1) d) nodes
-    hang-none holds some d =
-        let l = last-tree (holds .3) (take (top - 1) peaks) (getD peaks (top - 1) d) (front-last peaks top d (hang-some holds some) (omega (arith, holds .0, holds .1))) in
+    pub hang-none : 0 < forest .count → (d : N) → Hung join (forest .peaks) (forest .top - 1) (getD (forest .peaks) (forest .top - 1) d) nodes
+    hang-none some d =
+        let l = last-tree (holds .3) (take (forest .top - 1) (forest .peaks)) (getD (forest .peaks) (forest .top - 1) d) (front-last (forest .peaks) (forest .top) d (hang-some some) (omega (arith, holds .0, holds .1))) in
         record {
           height = suc (l .height);
           count = l .count;

@@ -1,5 +1,5 @@
 // A forest: perfect trees side by side over the nodes fed so far, the tallest and earliest first.
-ghost use Prim.Native.Nat.{_^_, _<_, _≤_};
+ghost use Prim.Native.Nat.{_^_, _<_};
 ghost use mathlib.Core.List.{List, [], _∷_, _++_};
 ghost use mathlib.Core.Path.{_≡_};
 ghost use Rattle.calendar.specs.Forests.{Holds, Sound};
@@ -17,7 +17,7 @@ pub(crate) struct Forest<N> {
 
 // The forest of one node.
 pub(crate) fn planted<J: Joining>(first: J::Node) -> Forest<J::Node>
-    ensures { λ r. ⌜ Holds (J·Joining .joined) (r .peaks) (r .top) (r .count) (first ∷ []) ⌝ }
+    ensures { λ r. ⌜ Holds (J·Joining .joined) r (first ∷ []) ⌝ }
 {
     Forest {
         peaks: [first; 32],
@@ -28,17 +28,17 @@ pub(crate) fn planted<J: Joining>(first: J::Node) -> Forest<J::Node>
 
 // One more node: joined with the last tree as long as both are equally tall.
 pub(crate) fn feed<J: Joining>(forest: &mut Forest<J::Node>, node: J::Node)
-    requires sound { ⌜ Sound (J·Joining .joined) (now forest .peaks) (now forest .top) (now forest .count) ⌝ }
+    requires sound { ⌜ Sound (J·Joining .joined) (now forest) ⌝ }
     requires room { ⌜ now forest .count < 2 ^ 31 ⌝ }
-    ensures { λ _. ⌜ ((xs : List J·Node) → Holds (J·Joining .joined) (now (forest .entry) .peaks) (now (forest .entry) .top) (now (forest .entry) .count) xs → Holds (J·Joining .joined) (now (forest .exit) .peaks) (now (forest .exit) .top) (now (forest .exit) .count) (xs ++ node ∷ [])) ⌝ }
+    ensures { λ _. ⌜ ((xs : List J·Node) → Holds (J·Joining .joined) (now (forest .entry)) xs → Holds (J·Joining .joined) (now (forest .exit)) (xs ++ node ∷ [])) ⌝ }
 {
     let mut top = forest.top;
     let mut rest = forest.count;
     let mut peak = node;
     while rest % 2 == 1 {
         top -= 1;
-        let before = forest.peaks[top];
-        peak = J::join(&before, &peak);
+        let last = forest.peaks[top];
+        peak = J::join(&last, &peak);
         rest /= 2;
     }
     forest.peaks[top] = peak;
@@ -48,9 +48,9 @@ pub(crate) fn feed<J: Joining>(forest: &mut Forest<J::Node>, node: J::Node)
 
 // The root over all nodes: the last tree joined with the one before it, and so on.
 pub(crate) fn whole<J: Joining>(forest: &Forest<J::Node>) -> J::Node
-    requires sound { ⌜ Sound (J·Joining .joined) (now forest .peaks) (now forest .top) (now forest .count) ⌝ }
+    requires sound { ⌜ Sound (J·Joining .joined) (now forest) ⌝ }
     requires some { ⌜ 0 < now forest .count ⌝ }
-    ensures { λ r. ⌜ ((xs : List J·Node) → Holds (J·Joining .joined) (now (forest .entry) .peaks) (now (forest .entry) .top) (now (forest .entry) .count) xs → root (J·Joining .joined) xs ≡ Some r) ⌝ }
+    ensures { λ r. ⌜ ((xs : List J·Node) → Holds (J·Joining .joined) (now (forest .entry)) xs → root (J·Joining .joined) xs ≡ Some r) ⌝ }
 {
     let mut top = forest.top - 1;
     let mut peak = forest.peaks[top];

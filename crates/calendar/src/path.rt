@@ -85,6 +85,7 @@ pub fn calendar_path<J: Joining, R: Row<Node = J::Node>>(
     let Some(count) = sides(publication, second, &mut own) else {
         return Err(PathRefusal::Absent);
     };
+    // asked before a link is written: a refusal leaves the links as they were
     let Some(_) = row.at(publication) else {
         return Err(PathRefusal::Absent);
     };

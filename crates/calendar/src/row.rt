@@ -6,13 +6,14 @@ ghost use Rattle.calendar.specs.Small.{Few-bytes};
 ghost use Rattle.std.specs.shelf.Maps.{nth};
 use digest::Digest;
 
-// A kind of node of which memory can hold some dozens.
+// A kind of node of which memory can hold 32 side by side: the peaks of a forest.
 pub trait Small: Copy {
     law small: { Few-bytes Self·row };
 }
 
 pub impl Small for Digest as DigestSmall {}
 
+// A row of nodes.
 pub trait Row {
     type Node: Small;
 

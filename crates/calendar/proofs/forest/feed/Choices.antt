@@ -6,7 +6,7 @@ use Rattle.calendar.proofs.forest.feed.Given as given
 
 abbrev pub Inv-loop-rest : given.InvT-loop-rest
 Inv-loop-rest g l =
-    ((xs : List (g .J·Node .Denot)) → Holds (g .J·Joining .joined) (l .forest .peaks) (l .forest .top) (l .forest .count) xs
+    ((xs : List (g .J·Node .Denot)) → Holds (g .J·Joining .joined) (l .forest) xs
     → Carried (g .J·Joining .joined) (l .forest .peaks) (l .forest .count) (l .top) (l .rest) (l .peak) (xs ++ l .entry .peak ∷ []))
     × (l .top ≤ l .forest .top)
 

@@ -1,4 +1,3 @@
-use Prim.Native.Nat.{suc}
 use mathlib.Core.Path.{refl}
 use mathlib.Core.List.{[], _∷_}
 use native.Mathlib.Omega.{arith}

@@ -5,7 +5,7 @@ use Rattle.calendar.proofs.forest.whole.Given as given
 
 abbrev pub Inv-loop-top : given.InvT-loop-top
 Inv-loop-top g l =
-    (xs : List (g .J·Node .Denot)) → Holds (g .J·Joining .joined) (l .forest .peaks) (l .forest .top) (l .forest .count) xs
+    (xs : List (g .J·Node .Denot)) → Holds (g .J·Joining .joined) (l .forest) xs
     → Hung (g .J·Joining .joined) (l .forest .peaks) (l .top) (l .peak) xs
 
 abbrev pub μ-loop-top : given.MeasureT-loop-top

@@ -1,4 +1,4 @@
-use Prim.Native.Nat.{ℕ, _≤_}
+use Prim.Native.Nat.{_≤_}
 use lib.ListN.{length}
 use Rattle.std.specs.shelf.Lists.{between}
 use Rattle.calendar.specs.Forests.{Holds}
@@ -6,5 +6,5 @@ use Rattle.calendar.proofs.range.range_root.Given as given
 
 abbrev pub Inv-loop-place : given.InvT-loop-place
 Inv-loop-place g l =
-    Holds (g .J·Joining .joined) (l .forest .peaks) (l .forest .top) (l .forest .count) (between (l .low) (l .place) (g .R·Row .row (l .row)))
+    Holds (g .J·Joining .joined) (l .forest) (between (l .low) (l .place) (g .R·Row .row (l .row)))
     × (l .place ≤ length (g .R·Row .row (l .row)))
