@@ -1,10 +1,18 @@
-// Digests the two records of one ping, port and starboard, and joins them to a small round under each hash.
+// Digests the two records of one ping, port and starboard, and commits their round as one second under each hash.
 mod entry;
 
 use digest::Digest;
 use digest::DigestDisplay;
 use digest::Hash;
+use digest::Seed;
 use entry::enter;
+use layers::Grouping;
+use layers::GroupingPile;
+use layers::Masking;
+use layers::MaskingPile;
+use pile::Head;
+use pile::HeadPile;
+use pile::Pile;
 use sha3::Sha3;
 use sha3::Sha3Hash;
 use sha256::Sha256;
@@ -16,8 +24,10 @@ use tree::Link;
 use tree::RoundJoining;
 use tree::RoundNodes;
 use tree::Side;
-use tree::path;
 use tree::root;
+
+// The seed of the masks, which a survey keeps to itself. This one is for the sample.
+const SEED: [u8; 32] = *b"a seed of thirty-two bytes, here";
 
 // A record under one hash: prints its digest and its leaf, and answers the leaf, or none where the hash refuses it.
 fn leaf_of<H: Hash>(
@@ -41,28 +51,44 @@ fn leaf_of<H: Hash>(
     }
 }
 
-// The path of one half in the round of two.
-fn show_path<H: Hash>(
-    rt: &LibcRuntime,
-    side: &str,
-    leaves: &[Digest],
-    place: usize,
-) -> Result<(), AnyError> {
-    let empty = Link {
+// The way of one half from its leaf to the second's digest.
+fn show_way<P: Pile>(rt: &LibcRuntime, side: &str, pile: &P, place: usize) -> Result<(), AnyError> {
+    let blank = Link {
         side: Side::Right,
         sibling: Digest::of([0; 32]),
     };
-    let mut links = [empty; 1];
-    if path::<RoundNodes<H>>(leaves, place, &mut links).is_err() {
+    let mut links = [blank; 8];
+    let Ok(count) = pile.way(place, &mut links) else {
         return Err("the round has no such place".into());
+    };
+    for link in links.iter().take(count) {
+        let number = link.side.number();
+        let sibling = link.sibling;
+        println!(rt, "  {side} way    {number} {sibling}")?;
     }
-    let number = links[0].side.number();
-    let sibling = links[0].sibling;
-    println!(rt, "  {side} path   {number} {sibling}")?;
     Ok(())
 }
 
-// The round of the two halves under one hash. Answers how many leaves entered it.
+// Commits the leaves as one second, and prints its digest and the way of each half.
+fn commit<P: Pile + Drop>(
+    rt: &LibcRuntime,
+    mut pile: P,
+    leaves: &[Digest],
+) -> Result<(), AnyError> {
+    if let Err(refusal) = pile.commit(leaves) {
+        let number = refusal.number();
+        println!(rt, "  refused {number}")?;
+        return Ok(());
+    }
+    let Some(digest) = pile.second(0) else {
+        return Err("the calendar is empty".into());
+    };
+    println!(rt, "  second 0         {digest}")?;
+    show_way(rt, "port     ", &pile, 0)?;
+    show_way(rt, "starboard", &pile, 1)
+}
+
+// The round of the two halves under one hash, through grouping and masking to a head. Answers how many leaves entered it.
 fn round<H: Hash>(
     rt: &LibcRuntime,
     name: &str,
@@ -77,12 +103,13 @@ fn round<H: Hash>(
         return Ok(0);
     };
     let leaves = [first, second];
-    let Some(top) = root::<RoundNodes<H>>(&leaves) else {
-        return Err("the round is empty".into());
-    };
-    println!(rt, "  round root       {top}")?;
-    show_path::<H>(rt, "port     ", &leaves, 0)?;
-    show_path::<H>(rt, "starboard", &leaves, 1)?;
+    if let Some(top) = root::<RoundNodes<H>>(&leaves) {
+        println!(rt, "  round root       {top}")?;
+    }
+    let mut row = [Digest::of([0; 32]); 1];
+    let grouping = Grouping::over(rt.alloc(), Head::<H>::over(&mut row))?;
+    let pile = Masking::over(rt.alloc(), grouping, Seed::of(SEED))?;
+    commit(rt, pile, &leaves)?;
     Ok(2)
 }
 
@@ -99,7 +126,7 @@ fn ping(rt: &LibcRuntime, port: &str, starboard: &str) -> Result<(), AnyError> {
     let leaves = one.saturating_add(other);
     println!(
         rt,
-        "done: 1 ping, 2 records, {leaves} leaves in rounds under 2 hashes"
+        "done: 1 ping, 2 records, {leaves} leaves committed under 2 hashes"
     )?;
     Ok(())
 }
