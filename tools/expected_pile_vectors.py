@@ -3,31 +3,10 @@
 computed from the rules with python3's hashlib."""
 import hashlib
 
+from rules import node, path, root
+
 SIZES = (0, 1, 8, 9, 64, 65, 256, 257)
 SEED, OTHER = bytes(range(100, 132)), bytes(range(7, 39))
-
-
-def split(n):
-    k = 1
-    while 2 * k < n:
-        k *= 2
-    return k
-
-
-def root(join, xs):
-    if len(xs) == 1:
-        return xs[0]
-    k = split(len(xs))
-    return join(root(join, xs[:k]), root(join, xs[k:]))
-
-
-def path(join, xs, i):
-    if len(xs) == 1:
-        return []
-    k = split(len(xs))
-    if i < k:
-        return path(join, xs[:k], i) + [(0, root(join, xs[k:]))]
-    return path(join, xs[k:], i - k) + [(1, root(join, xs[:k]))]
 
 
 class Head:
@@ -62,10 +41,6 @@ class Masking:
         down = [self.h(b"\1" + m + x).digest() for m, x in zip(masks, xs)]
         digest, ways = self.below.sealed(down, second)
         return digest, [[(1, m)] + way for m, way in zip(masks, ways)]
-
-
-def node(i):
-    return bytes((3 * i + j) % 256 for j in range(32))
 
 
 def show(label, pile):

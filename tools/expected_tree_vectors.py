@@ -3,43 +3,11 @@
 large publications, computed from the rules with python3's hashlib."""
 import hashlib
 
+from rules import node, path, root, shape
+
 SIZES = range(1, 71)
 LARGE = ((2**31 - 1, 0), (2**31 - 1, 2**31 - 1), (2**31 - 1, 1431655765), (2**31 - 2, 2**31 - 2), (2**31 - 2, 2**30),
          (1000000, 999999), (1000000, 524288), (86399, 86399), (86400, 86400), (2**31, 0), (5, 6))
-
-
-def split(n):
-    k = 1
-    while 2 * k < n:
-        k *= 2
-    return k
-
-
-def root(join, xs):
-    if len(xs) == 1:
-        return xs[0]
-    k = split(len(xs))
-    return join(root(join, xs[:k]), root(join, xs[k:]))
-
-
-def path(join, xs, i):
-    if len(xs) == 1:
-        return []
-    k = split(len(xs))
-    if i < k:
-        return path(join, xs[:k], i) + [(0, root(join, xs[k:]))]
-    return path(join, xs[k:], i - k) + [(1, root(join, xs[:k]))]
-
-
-def shape(n, i):
-    if n == 1:
-        return ""
-    k = split(n)
-    return shape(k, i) + "0" if i < k else shape(n - k, i - k) + "1"
-
-
-def node(i):
-    return bytes((3 * i + j) % 256 for j in range(32))
 
 
 def told(text):
