@@ -1,5 +1,4 @@
 // Grouping: a list of at most 256 digests goes down as the roots of its groups of eight.
-ghost use Prim.Native.Nat.{_*_};
 ghost use lib.ListN.{take};
 ghost use mathlib.Core.Path.{_≡_};
 ghost use Rattle.layers.specs.Table.{Nine-table};

@@ -1,4 +1,5 @@
-// Layers over any pile: groups of eight, and masks.
+// Layers over any pile: groups of eight, and masks. They stand on each other in any order.
+// A stack over a head, which holds lent memory, is built in a function that takes the head as a type parameter.
 mod behind;
 mod grouping;
 mod groups;

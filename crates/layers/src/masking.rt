@@ -1,5 +1,4 @@
 // Masking: each item of a list of at most 256 goes down under a mask that is made from a seed.
-ghost use Prim.Native.Nat.{_*_};
 ghost use lib.ListN.{length, take};
 ghost use mathlib.Core.Path.{_≡_};
 ghost use Rattle.layers.specs.Masking.{masked, masking-meaning, masking-fresh, masking-seal};
