@@ -155,7 +155,7 @@ module _ (digested : List ℕ → Digest) where
       }
 
   -- nothing of a list is cut off that has gone down whole
-  pub uncut : (items round : List Digest) → round ≡ group-roots digested items → grouped-round digested items round ≡ items
+  pub uncut : (items round : List Digest) → round ≡ group-roots digested items → grouped-round items round ≡ items
   uncut items round e = take-all (8 * length round) items (omega (arith, ap length e, length-roots items))
 
   pub grouping-after : (m : Meaning) (items : List Digest) (sealed : Sealed) (stored : List Digest)
@@ -182,7 +182,7 @@ module _ (digested : List ℕ → Digest) where
       let h : i < length items = nth-is items i item at .0 in
       let root : Digest = group-root digested (group items (i / 8)) in
       let below : nth (m .round) (i / 8) ≡ Some root = ap (λ xs. nth xs (i / 8)) e ∙ root-at items (i / 8) (omega arith) in
-      let way : getD (grouped-ways digested (grouped-round digested items (m .round)) (m .ways)) i [] ≡ grouped-way digested items (m .ways) i =
+      let way : getD (grouped-ways digested (grouped-round items (m .round)) (m .ways)) i [] ≡ grouped-way digested items (m .ways) i =
       ap (λ xs. getD (grouped-ways digested xs (m .ways)) i []) same ∙ way-at items (m .ways) i h in
       law (i / 8) root below
       ∙ ap Some (sym (

@@ -12,6 +12,6 @@ returns g c =
     let m : Meaning = g .P·Pile .meaning (p .below) in
     let stored = take (p .stored .count) (p .stored .list) in
     record {
-      short = grouped-short digested (grouped-round digested stored (m .round)) (m .ways) (m .deepest) (c .deepest .ensures .short);
+      short = grouped-short digested (grouped-round stored (m .round)) (m .ways) (m .deepest) (c .deepest .ensures .short);
       value = omega (arith, c .deepest .ensures .value);
     }
