@@ -1,25 +1,23 @@
 -- The groups of a list: where an item stands among them, and where its way leads.
-use Prim.Native.Nat.{ℕ, zero, suc, _+_, _-_, _*_, _/_, _%_, _^_, _<_, _≤_, min}
+use Prim.Native.Nat.{ℕ, _+_, _-_, _*_, _/_, _%_, _<_, _≤_, min}
 use mathlib.Core.Path.{_≡_, refl, sym, ap, _∙_}
 use mathlib.Core.Logic.{inl, inr}
-use mathlib.Core.List.{List, [], _∷_, _++_, map}
+use mathlib.Core.List.{List, [], _∷_, _++_}
 use native.Mathlib.Omega.{arith}
 use lib.Dec.{ltb}
 use lib.ListN.{length, getD, take, drop}
 use Rattle.std.specs.declared.option.Option.{Option}
-use Rattle.std.specs.declared.option.Option.the-variants.{Some, None}
+use Rattle.std.specs.declared.option.Option.the-variants.{Some}
 use Rattle.std.specs.declared.result.Result.the-variants.{Ok}
 use Rattle.std.specs.Options.{valueOr}
-use Rattle.std.specs.Iters.{counting}
 use Rattle.std.specs.shelf.Maps.{nth}
-use Rattle.std.proofs.shelf.Lists.{length-append, length-map, length-take, length-drop, take-all, take-take, drop-take, getD-take, getD-drop, getD-past, nil-from-length}
+use Rattle.std.proofs.shelf.Lists.{length-append, length-map, length-take, length-drop, take-all, take-take, drop-take, getD-take, getD-drop, getD-past}
 use Rattle.std.proofs.shelf.Counted.{length-map-counting, getD-map-counting}
-use Rattle.std.proofs.shelf.Maps.{nth-getD, nth-past}
+use Rattle.std.proofs.shelf.Maps.{nth-getD}
 use Rattle.std.proofs.shelf.Tests.{cond-true, cond-false, lt-ltb, le-ltb, cases-lt}
 use Rattle.digest.specs.declared.value.Digest.{Digest}
 use Rattle.digest.specs.Messages.{empty-message}
-use Rattle.tree.specs.declared.link.Link.{Link}
-use Rattle.tree.specs.Trees.{root, path, step, followed, shape}
+use Rattle.tree.specs.Trees.{root, path, followed, shape}
 use Rattle.tree.specs.Answers.{path-answer}
 use Rattle.tree.proofs.Roots.{root-is}
 use Rattle.tree.proofs.Paths.{path-is, path-law, shape-law}
@@ -157,7 +155,7 @@ module _ (digested : List ℕ → Digest) where
       }
 
   -- nothing of a list is cut off that has gone down whole
-  pub uncut : (items round : List Digest) → round ≡ group-roots digested items → grouped-round digested items round ≡ items
+  pub uncut : (items round : List Digest) → round ≡ group-roots digested items → grouped-round items round ≡ items
   uncut items round e = take-all (8 * length round) items (omega (arith, ap length e, length-roots items))
 
   pub grouping-after : (m : Meaning) (items : List Digest) (sealed : Sealed) (stored : List Digest)
@@ -184,7 +182,7 @@ module _ (digested : List ℕ → Digest) where
       let h : i < length items = nth-is items i item at .0 in
       let root : Digest = group-root digested (group items (i / 8)) in
       let below : nth (m .round) (i / 8) ≡ Some root = ap (λ xs. nth xs (i / 8)) e ∙ root-at items (i / 8) (omega arith) in
-      let way : getD (grouped-ways digested (grouped-round digested items (m .round)) (m .ways)) i [] ≡ grouped-way digested items (m .ways) i =
+      let way : getD (grouped-ways digested (grouped-round items (m .round)) (m .ways)) i [] ≡ grouped-way digested items (m .ways) i =
       ap (λ xs. getD (grouped-ways digested xs (m .ways)) i []) same ∙ way-at items (m .ways) i h in
       law (i / 8) root below
       ∙ ap Some (sym (

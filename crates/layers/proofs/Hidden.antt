@@ -1,5 +1,5 @@
 -- The items of a list under their masks, and where their ways lead.
-use Prim.Native.Nat.{ℕ, zero, suc, _+_, _-_, _<_, _≤_, min}
+use Prim.Native.Nat.{ℕ, zero, suc, _+_, _<_, _≤_, min}
 use mathlib.Core.Path.{_≡_, refl, sym, ap, _∙_}
 use mathlib.Core.Logic.{inl, inr}
 use mathlib.Core.List.{List, [], _∷_, _++_}
@@ -75,7 +75,7 @@ module _ (digested : List ℕ → Digest) (seed : Seed) (second : ℕ) where
       }
 
   -- nothing of a list is cut off that has gone down whole
-  pub uncut : (items round : List Digest) → round ≡ masked digested seed second items → masked-round digested seed second items round ≡ items
+  pub uncut : (items round : List Digest) → round ≡ masked digested seed second items → masked-round items round ≡ items
   uncut items round e = take-all (length round) items (omega (arith, ap length e, length-masked items))
 
   pub masking-after : (m : Meaning) (items : List Digest) (sealed : Sealed) (before : ℕ) (stored : List Digest)
@@ -104,7 +104,7 @@ module _ (digested : List ℕ → Digest) (seed : Seed) (second : ℕ) where
       ap (λ xs. nth xs i) e
       ∙ (nth-getD (masked digested seed second items) i item (omega (arith, at .0, length-masked items))
       ∙ ap Some (masked-at items i item (at .0) ∙ ap (round-join digested (mask-at digested seed second i)) (at .1))) in
-      let way : getD (masked-ways digested seed second (masked-round digested seed second items (m .round)) (m .ways)) i [] ≡ masked-way digested seed second (m .ways) i =
+      let way : getD (masked-ways digested seed second (masked-round items (m .round)) (m .ways)) i [] ≡ masked-way digested seed second (m .ways) i =
       ap (λ xs. getD (masked-ways digested seed second xs (m .ways)) i []) same ∙ way-at items (m .ways) i (at .0) in
       law i hidden below ∙ ap Some (sym (ap (followed (round-join digested) item) way))
 

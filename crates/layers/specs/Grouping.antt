@@ -17,6 +17,10 @@ group items j = take 8 (drop (8 * j) items)
 abbrev pub groups : ℕ → ℕ
 groups n = (n + 7) / 8
 
+-- a list as far as the pile below has places for its groups
+abbrev pub grouped-round : List Digest → List Digest → List Digest
+grouped-round stored below = take (8 * length below) stored
+
 module _ (digested : List ℕ → Digest) where
   -- a group's root; no group is empty, so nothing rests on what an empty one has
   abbrev pub group-root : List Digest → Digest
@@ -36,10 +40,6 @@ module _ (digested : List ℕ → Digest) where
 
   abbrev pub grouped-ways : List Digest → List Way → List Way
   grouped-ways items below = map (grouped-way items below) (counting 0 (length items))
-
-  -- the list as far as the pile below has places for its groups
-  abbrev pub grouped-round : List Digest → List Digest → List Digest
-  grouped-round stored below = take (8 * length below) stored
 
   -- what a grouping means that stored a list over a pile
   abbrev pub grouping-meaning : List Digest → Meaning → Meaning

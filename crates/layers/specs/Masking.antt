@@ -9,6 +9,10 @@ use Rattle.digest.specs.Messages.{mask-message}
 use Rattle.tree.specs.declared.link.Side.the-variants.{Left}
 use Rattle.pile.specs.Meaning.{Meaning, Sealed, Way, round-join}
 
+-- a list as far as the pile below has places for it
+abbrev pub masked-round : List Digest → List Digest → List Digest
+masked-round stored below = take (length below) stored
+
 module _ (digested : List ℕ → Digest) (seed : Seed) (second : ℕ) where
   -- the mask of a place in the list of this second
   abbrev pub mask-at : ℕ → Digest
@@ -29,10 +33,6 @@ module _ (digested : List ℕ → Digest) (seed : Seed) (second : ℕ) where
 
   abbrev pub masked-ways : List Digest → List Way → List Way
   masked-ways items below = map (masked-way below) (counting 0 (length items))
-
-  -- the list as far as the pile below has places for it
-  abbrev pub masked-round : List Digest → List Digest → List Digest
-  masked-round stored below = take (length below) stored
 
   -- what a masking means that stored a list, in this second, over a pile
   abbrev pub masking-meaning : List Digest → Meaning → Meaning

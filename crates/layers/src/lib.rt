@@ -1,4 +1,4 @@
-// Layers over any pile: groups of eight, and masks.
+// Layers over any pile: groups of eight, and masks. They stand on each other in any order.
 mod behind;
 mod grouping;
 mod groups;

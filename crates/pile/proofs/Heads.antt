@@ -1,15 +1,15 @@
 -- The head's row, its last round, and its ways, which have no links.
 use Prim.Native.Nat.{ℕ, zero, suc, _+_, _-_, _^_, _<_, _≤_, min}
 use mathlib.Core.Path.{_≡_, refl, sym, ap, _∙_}
-use mathlib.Core.Bool.{Bool, true, false, cond, not}
+use mathlib.Core.Bool.{Bool, true, not}
 use lib.Dec.{eqb}
 use mathlib.Core.List.{List, [], _∷_, _++_}
 use native.Mathlib.Omega.{arith}
-use lib.ListN.{length, getD, take, drop, set}
+use lib.ListN.{length, getD, take, set}
 use Rattle.std.specs.declared.option.Option.the-variants.{Some}
 use Rattle.std.specs.declared.result.Result.the-variants.{Ok}
 use Rattle.std.specs.shelf.Maps.{nth}
-use Rattle.std.proofs.shelf.Lists.{length-set, length-map, length-push, length-take, length-drop, take-more-set, drop-at, getD-take}
+use Rattle.std.proofs.shelf.Lists.{length-set, length-push, length-take, length-drop, take-more-set, drop-at, getD-take}
 use Rattle.std.proofs.shelf.Maps.{nth-getD}
 use Rattle.digest.specs.declared.value.Digest.{Digest}
 use Rattle.tree.specs.Trees.{followed}

@@ -1,8 +1,8 @@
 // A calendar's memory: a row of records that the program lends, filled from the front.
-ghost use Prim.Native.Nat.{_+_, _<_, _≤_};
+ghost use Prim.Native.Nat.{_+_, _<_};
 ghost use lib.Dec.{leb};
 ghost use lib.ListN.{length, set};
-ghost use mathlib.Core.Bool.{Bool, false};
+ghost use mathlib.Core.Bool.{false};
 ghost use mathlib.Core.Path.{_≡_};
 ghost use Rattle.std.specs.shelf.Maps.{nth};
 ghost use Rattle.pile.specs.Head.{head-span, head-row, head-round};
@@ -59,7 +59,8 @@ impl Records<'_> {
         ensures { λ r. ⌜ r ≡ nth (head-row (now (self .entry) .lent .now) (now (self .entry) .held)) second ⌝ }
     {
         if second < self.seconds() {
-            Some(self.lent[second as usize])
+            let place = second as usize;
+            Some(self.lent[place])
         } else {
             None
         }

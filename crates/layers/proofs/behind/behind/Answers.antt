@@ -1,6 +1,6 @@
-use Prim.Native.Nat.{ℕ, _+_, _-_, _<_, _≤_}
+use Prim.Native.Nat.{ℕ, _-_, _<_}
 use mathlib.Core.Path.{_≡_, refl, sym, ap, _∙_}
-use mathlib.Core.Bool.{true, not}
+use mathlib.Core.Bool.{not}
 use mathlib.Core.List.{[], _++_}
 use native.Mathlib.Omega.{arith}
 use lib.ListN.{length, getD, take, drop}
@@ -8,11 +8,9 @@ use borrow.Rule.Slice.PartMut.{putMid}
 use Rattle.std.specs.declared.result.Result.the-variants.{Ok, Err}
 use Rattle.std.specs.Options.{isSome}
 use Rattle.std.proofs.shelf.Lists.{length-append, take-rest, length-drop}
-use Rattle.pile.specs.declared.refusal.WayRefusal.the-variants.{Short}
 use Rattle.pile.specs.Meaning.{Meaning, Way}
-use Rattle.pile.specs.Answers.{way-length, way-answer, way-written}
+use Rattle.pile.specs.Answers.{way-length, way-written}
 use Rattle.pile.proofs.Answered.{way-ok, way-err}
-use Rattle.layers.specs.Behind.{behind}
 use Rattle.layers.proofs.Ways.{present, behind-short, behind-fits, put-back, put-front}
 use Rattle.layers.proofs.behind.behind.Needs as need
 

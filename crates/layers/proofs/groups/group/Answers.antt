@@ -1,7 +1,5 @@
-use Prim.Native.Nat.{ℕ, _+_, _-_, _*_, min}
-use mathlib.Core.Path.{_≡_}
+use Prim.Native.Nat.{_+_, _-_, _*_, min}
 use native.Mathlib.Omega.{arith}
-use lib.ListN.{length}
 use Rattle.layers.proofs.Eights.{group-part}
 use Rattle.layers.proofs.groups.group.Needs as need
 

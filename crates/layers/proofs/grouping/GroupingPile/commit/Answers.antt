@@ -1,14 +1,14 @@
-use Prim.Native.Nat.{ℕ, _-_, _*_, _<_, _≤_, min}
-use mathlib.Core.Path.{_≡_, refl, sym, ap, subst, _∙_}
+use Prim.Native.Nat.{ℕ, _-_}
+use mathlib.Core.Path.{_≡_, sym, ap, subst, _∙_}
 use mathlib.Core.List.{List}
 use native.Mathlib.Omega.{arith}
-use lib.ListN.{length, take}
+use lib.ListN.{take}
 use Rattle.std.specs.declared.result.Result.the-variants.{Ok}
 use Rattle.digest.specs.declared.value.Digest.{Digest}
 use Rattle.pile.specs.Meaning.{Meaning, Law, Empty-law}
 use Rattle.pile.specs.Answers.{committed}
 use Rattle.pile.proofs.Answered.{served}
-use Rattle.layers.specs.Grouping.{group-roots, grouping-meaning, grouping-seal}
+use Rattle.layers.specs.Grouping.{group-roots, grouping-meaning}
 use Rattle.layers.proofs.Eights.{grouping-after, grouping-law, grouping-empty}
 use Rattle.layers.specs.Kept.{stored-items}
 use Rattle.layers.proofs.grouping.GroupingPile.commit.Needs as need

@@ -13,6 +13,6 @@ returns g c =
     let m : Meaning = g .P·Pile .meaning (p .below) in
     let stored = stored-items (p .stored) in
     record {
-      short = grouped-short digested (grouped-round digested stored (m .round)) (m .ways) (m .deepest) (c .deepest .ensures .short);
+      short = grouped-short digested (grouped-round stored (m .round)) (m .ways) (m .deepest) (c .deepest .ensures .short);
       value = omega (arith, c .deepest .ensures .value);
     }

@@ -11,8 +11,7 @@ returns g c =
     let digested = g .Digester·Hash .digested in
     let p = c .args .self .now in
     let m : Meaning = g .P·Pile .meaning (p .below) in
-    let stored = stored-items (p .stored) in
-    let round = masked-round digested (p .seed) (p .second) stored (m .round) in
+    let round = masked-round (stored-items (p .stored)) (m .round) in
     record {
       short = masked-short digested (p .seed) (p .second) round (m .ways) (m .deepest) (c .deepest .ensures .short);
       value = omega (arith, c .deepest .ensures .value);

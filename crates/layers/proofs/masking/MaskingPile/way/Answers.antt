@@ -1,5 +1,5 @@
 use Prim.Native.Nat.{ℕ, _<_}
-use mathlib.Core.Path.{_≡_, refl, sym, ap, _∙_}
+use mathlib.Core.Path.{refl, sym, ap, _∙_}
 use mathlib.Core.List.{List, [], _∷_}
 use native.Mathlib.Omega.{arith}
 use lib.ListN.{length, take}
@@ -9,7 +9,7 @@ use Rattle.tree.specs.declared.link.Side.the-variants.{Left}
 use Rattle.pile.specs.Meaning.{Meaning, Way}
 use Rattle.pile.proofs.Answered.{way-absent}
 use Rattle.layers.specs.Behind.{behind-answer, behind-written}
-use Rattle.layers.specs.Masking.{mask-at, masking-meaning}
+use Rattle.layers.specs.Masking.{masking-meaning}
 use Rattle.layers.proofs.Ways.{same-answer, same-written}
 use Rattle.layers.proofs.Hidden.{masking-over}
 use Rattle.layers.specs.Kept.{stored-items}

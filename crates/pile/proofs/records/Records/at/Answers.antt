@@ -1,4 +1,4 @@
-use mathlib.Core.Path.{sym, ap, _∙_}
+use mathlib.Core.Path.{sym}
 use native.Mathlib.Omega.{arith}
 use Rattle.std.proofs.shelf.Maps.{nth-past}
 use Rattle.pile.specs.Head.{head-row}
@@ -8,7 +8,7 @@ use Rattle.pile.proofs.records.Records.at.Needs as need
 pub returns-then-second-seconds : need.returns-then-second-seconds
 returns-then-second-seconds c =
     let p = c .args .self .now in
-    sym (row-at (p .lent .now) (p .held) (c .args .second) (c .index-self-second .result) (omega arith))
+    sym (row-at (p .lent .now) (p .held) (c .args .second) (c .index-self-place .result) (omega arith))
 
 pub returns-else-second-seconds : need.returns-else-second-seconds
 returns-else-second-seconds c =
