@@ -137,56 +137,76 @@ fn rounds<P: Pile + Drop>(rt: &LibcRuntime, label: &str, mut pile: P) -> Result<
     Ok(())
 }
 
-// The seed of the upper masking, and of the lower one.
+// The first byte of the seed of the upper masking, and of the lower one.
 const UPPER: u8 = 100;
 
 const LOWER: u8 = 7;
 
-fn groupings<H: Hash>(rt: &LibcRuntime, name: &str, row: &mut [Digest]) -> Result<(), AnyError> {
-    let heap = rt.alloc();
-    let label = format!(heap, "{name} head")?;
-    rounds(rt, label.as_str(), Head::<H>::over(row))?;
-    let label = format!(heap, "{name} grouping")?;
-    rounds(
-        rt,
-        label.as_str(),
-        Grouping::over(heap, Head::<H>::over(row))?,
-    )?;
-    let label = format!(heap, "{name} grouping grouping")?;
-    let two = Grouping::over(heap, Grouping::over(heap, Head::<H>::over(row))?)?;
-    rounds(rt, label.as_str(), two)?;
-    let label = format!(heap, "{name} grouping grouping grouping")?;
-    let two = Grouping::over(heap, Grouping::over(heap, Head::<H>::over(row))?)?;
-    rounds(rt, label.as_str(), Grouping::over(heap, two)?)
+// Two groupings over a pile.
+fn twice<P: Pile + Drop>(heap: Global, below: P) -> Result<Grouping<Grouping<P>>, AllocError> {
+    let one = Grouping::over(heap, below)?;
+    Ok(Grouping::over(heap, one)?)
 }
 
-fn maskings<H: Hash>(rt: &LibcRuntime, name: &str, row: &mut [Digest]) -> Result<(), AnyError> {
-    let heap = rt.alloc();
-    let upper = Seed::of(counted(UPPER));
-    let lower = Seed::of(counted(LOWER));
-    let label = format!(heap, "{name} masking grouping grouping")?;
-    let two = Grouping::over(heap, Grouping::over(heap, Head::<H>::over(row))?)?;
-    rounds(rt, label.as_str(), Masking::over(heap, two, upper)?)?;
-    let label = format!(heap, "{name} grouping masking grouping grouping")?;
-    let two = Grouping::over(heap, Grouping::over(heap, Head::<H>::over(row))?)?;
-    rounds(
-        rt,
-        label.as_str(),
-        Grouping::over(heap, Masking::over(heap, two, upper)?)?,
-    )?;
-    let label = format!(heap, "{name} masking masking grouping")?;
-    let one = Grouping::over(heap, Head::<H>::over(row))?;
-    rounds(
-        rt,
-        label.as_str(),
-        Masking::over(heap, Masking::over(heap, one, lower)?, upper)?,
-    )
+// A masking over a pile, with the seed that begins with a byte.
+fn hidden<P: Pile + Drop>(heap: Global, below: P, first: u8) -> Result<Masking<P>, AllocError> {
+    Ok(Masking::over(heap, below, Seed::of(counted(first)))?)
+}
+
+// Stacks over a pile, named from the top down.
+fn grouping<P: Pile + Drop>(rt: &LibcRuntime, name: &str, below: P) -> Result<(), AnyError> {
+    let label = format!(rt.alloc(), "{name} grouping")?;
+    rounds(rt, label.as_str(), Grouping::over(rt.alloc(), below)?)
+}
+
+fn grouping_twice<P: Pile + Drop>(rt: &LibcRuntime, name: &str, below: P) -> Result<(), AnyError> {
+    let label = format!(rt.alloc(), "{name} grouping grouping")?;
+    rounds(rt, label.as_str(), twice(rt.alloc(), below)?)
+}
+
+fn grouping_thrice<P: Pile + Drop>(rt: &LibcRuntime, name: &str, below: P) -> Result<(), AnyError> {
+    let label = format!(rt.alloc(), "{name} grouping grouping grouping")?;
+    let two = twice(rt.alloc(), below)?;
+    rounds(rt, label.as_str(), Grouping::over(rt.alloc(), two)?)
+}
+
+fn masking_grouping<P: Pile + Drop>(
+    rt: &LibcRuntime,
+    name: &str,
+    below: P,
+) -> Result<(), AnyError> {
+    let label = format!(rt.alloc(), "{name} masking grouping grouping")?;
+    let two = twice(rt.alloc(), below)?;
+    rounds(rt, label.as_str(), hidden(rt.alloc(), two, UPPER)?)
+}
+
+fn grouping_masking<P: Pile + Drop>(
+    rt: &LibcRuntime,
+    name: &str,
+    below: P,
+) -> Result<(), AnyError> {
+    let label = format!(rt.alloc(), "{name} grouping masking grouping grouping")?;
+    let middle = hidden(rt.alloc(), twice(rt.alloc(), below)?, UPPER)?;
+    rounds(rt, label.as_str(), Grouping::over(rt.alloc(), middle)?)
+}
+
+fn masking_twice<P: Pile + Drop>(rt: &LibcRuntime, name: &str, below: P) -> Result<(), AnyError> {
+    let label = format!(rt.alloc(), "{name} masking masking grouping")?;
+    let one = Grouping::over(rt.alloc(), below)?;
+    let lower = hidden(rt.alloc(), one, LOWER)?;
+    rounds(rt, label.as_str(), hidden(rt.alloc(), lower, UPPER)?)
 }
 
 fn stacks<H: Hash>(rt: &LibcRuntime, name: &str) -> Result<(), AnyError> {
     let mut row = [Digest::of([0; 32]); SECONDS];
-    groupings::<H>(rt, name, &mut row)?;
-    maskings::<H>(rt, name, &mut row)
+    let label = format!(rt.alloc(), "{name} head")?;
+    rounds(rt, label.as_str(), Head::<H>::over(&mut row))?;
+    grouping(rt, name, Head::<H>::over(&mut row))?;
+    grouping_twice(rt, name, Head::<H>::over(&mut row))?;
+    grouping_thrice(rt, name, Head::<H>::over(&mut row))?;
+    masking_grouping(rt, name, Head::<H>::over(&mut row))?;
+    grouping_masking(rt, name, Head::<H>::over(&mut row))?;
+    masking_twice(rt, name, Head::<H>::over(&mut row))
 }
 
 fn run(rt: &LibcRuntime) -> Result<(), AnyError> {
