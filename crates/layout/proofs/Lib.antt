@@ -1,0 +1,9 @@
+pub mod Clean
+pub mod Exact
+pub mod Faulted
+pub mod LinkBytes
+pub mod Links
+pub mod Longest
+pub mod ReadBack
+pub mod Sides
+pub mod WrittenBack

@@ -1,0 +1,4 @@
+pub mod Content
+pub mod Parts
+pub mod Faults
+pub mod Laws

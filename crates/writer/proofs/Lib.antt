@@ -1,0 +1,3 @@
+mod LaidOut
+mod Linked
+mod Refused
