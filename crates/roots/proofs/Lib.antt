@@ -1,0 +1,9 @@
+mod Listed
+mod Rises
+mod Found
+mod Faulted
+mod Narrowed
+mod Printed
+mod Refused
+mod Written
+mod ReadBack

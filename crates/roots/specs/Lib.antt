@@ -1,0 +1,5 @@
+pub mod Entries
+pub mod Faults
+pub mod Reading
+pub mod Printing
+pub mod Laws
