@@ -11,7 +11,7 @@ use Rattle.digest.specs.declared.refusal.Refusal.{Refusal}
 use Rattle.digest.specs.declared.refusal.Refusal.the-variants.{TooLong}
 use Rattle.digest.specs.Hashes.{longest}
 use Rattle.digest.specs.Messages.{leaf-message}
-use Rattle.stamp.specs.declared.entry.Entry.{Entry}
+use Rattle.entry.specs.declared.entered.Entry.{Entry}
 
 -- its digest, and the digest of its leaf message; a record above the longest message is refused
 abbrev pub entered : (List ℕ → Digest) → List ℕ → Result Entry Refusal

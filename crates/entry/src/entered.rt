@@ -1,6 +1,6 @@
 // What a record puts into a round.
 ghost use mathlib.Core.Path.{_≡_};
-ghost use Rattle.stamp.specs.Entered.{entered};
+ghost use Rattle.entry.specs.Entered.{entered};
 use digest::Digest;
 use digest::Hash;
 use digest::Refusal;
