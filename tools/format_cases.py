@@ -101,6 +101,14 @@ def example():
             printed([(1, calendar_node(1)(empty, joined))]))
 
 
+def hash_number_cases(good, other):
+    """Numbers of no hash, in good bytes of hash 1 and of hash 2: both formats have theirs at one place."""
+    yield "hash number 0", 1, put(good, (HASH_AT, b"\0"))
+    yield "hash number 0 under hash 2", 2, put(other, (HASH_AT, b"\0"))
+    yield "hash number 3", 2, put(other, (HASH_AT, b"\3"))
+    yield "hash number 255", 1, put(good, (HASH_AT, b"\xff"))
+
+
 def token_cases():
     bare, good = token(5, 9), token(5, 9, links("0110"), links(shape(10, 5), 4))
     other = token(5, 9, links("0110"), links(shape(10, 5), 4), code=2)
@@ -138,10 +146,7 @@ def token_cases():
     yield "version 0", 1, put(good, (VERSION_AT, big(0, 2)))
     yield "version lowest byte first", 1, put(good, (VERSION_AT, VERSION.to_bytes(2, "little")))
     yield "version 65535", 1, put(good, (VERSION_AT, big(65535, 2)))
-    yield "hash number 0", 1, put(good, (HASH_AT, b"\0"))
-    yield "hash number 0 under hash 2", 2, put(other, (HASH_AT, b"\0"))
-    yield "hash number 3", 2, put(other, (HASH_AT, b"\3"))
-    yield "hash number 255", 1, put(good, (HASH_AT, b"\xff"))
+    yield from hash_number_cases(good, other)
     yield "hash number changed to the other", 1, put(good, (HASH_AT, b"\2"))
     yield "token of hash 1 read for hash 2", 2, good
     yield "token of hash 2 read for hash 1", 1, other
@@ -246,10 +251,7 @@ def list_cases():
     yield "version wrong in its last byte", 1, put(good, (VERSION_AT + 1, b"\2"))
     yield "version 0", 1, put(good, (VERSION_AT, big(0, 2)))
     yield "version lowest byte first", 2, put(other, (VERSION_AT, VERSION.to_bytes(2, "little")))
-    yield "hash number 0", 1, put(good, (HASH_AT, b"\0"))
-    yield "hash number 0 under hash 2", 2, put(other, (HASH_AT, b"\0"))
-    yield "hash number 3", 2, put(other, (HASH_AT, b"\3"))
-    yield "hash number 255", 1, put(good, (HASH_AT, b"\xff"))
+    yield from hash_number_cases(good, other)
     yield "list of hash 1 loaded for hash 2", 2, good
     yield "list of hash 2 loaded for hash 1", 1, other
     yield "1801 entries", 1, printed(entries(range(1, MOST_ENTRIES + 2)))
