@@ -1,4 +1,6 @@
 // The calendar: root and paths over a row of nodes that is asked place by place.
+#![tactic(auto)]
+
 mod forest;
 mod path;
 mod range;

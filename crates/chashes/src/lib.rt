@@ -1,4 +1,6 @@
 // The two hashes for C: a message as pointer and length, 32 bytes of the caller's for the digest, and 0 or a refusal's number.
+#![tactic(auto)]
+
 ghost use Rattle.std.specs.Prelude.{◌≡◌};
 ghost use Rattle.digest.specs.Hashes.{answered};
 ghost use Rattle.sha256.specs.Sha256.{sha256};

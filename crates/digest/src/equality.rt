@@ -1,8 +1,9 @@
 // Two digests are equal exactly where all their bytes are.
-ghost use Rattle.std.specs.Prelude.{◌≡◌, Decides};
+ghost use Rattle.std.specs.Prelude.{◌≡◌, ◌==◌, Decides};
+ghost use Rattle.std.specs.Ordering.{on};
+ghost use Rattle.std.specs.Cmp.Lexicographic.{pointwise};
 ghost use Rattle.std.specs.Cmp.Rules.{comparing};
-ghost use Rattle.std.proofs.Common.{rules, arith};
-ghost use Rattle.std.specs.Cmp as Keys;
+ghost use Rattle.std.proofs.Common.{rules};
 
 use crate::value::Digest;
 
@@ -12,16 +13,19 @@ fn same(left: &[u8; 32], right: &[u8; 32]) -> bool
     left == right
 }
 
-impl PartialEq<Digest> for Digest {
-    ghost equals = { λ a b r. Decides r (a.bytes ≡ b.bytes) };
+impl PartialEq for Digest {
+    ghost eq = { on (λ d. d.bytes) (pointwise ◌==◌) };
 
-    ghost laws = { Keys.partial_equiv_from_equiv (first_of (Prim.search (comparing, rules), Prim.grind (arith, Self.row.coded.inj))) };
+    ghost laws = { Prim.search (comparing, rules) };
 
-    fn eq(&self, other: &Digest) -> bool {
+    fn eq(&self, other: &Digest) -> bool
+        ensures value { result ≡ on (λ d. d.bytes) (pointwise ◌==◌) self.now other.now }
+        ensures exact { Decides result (self.now.bytes ≡ other.now.bytes) }
+    {
         same(self.as_bytes(), other.as_bytes())
     }
 }
 
 impl Eq for Digest {
-    ghost laws = { first_of (Prim.search (comparing, rules), Prim.grind (arith, Self.row.coded.inj)) };
+    ghost laws = { Prim.search (comparing, rules) };
 }

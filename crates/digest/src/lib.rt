@@ -1,4 +1,6 @@
 // Digests, what a hash is, and the digests of the messages that rounds and the calendar are made of.
+#![tactic(auto)]
+
 mod equality;
 mod hash;
 mod messages;

@@ -1,4 +1,6 @@
 // What a record puts into a round.
+#![tactic(auto)]
+
 mod entered;
 
 pub use entered::{Entry, enter};

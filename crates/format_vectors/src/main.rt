@@ -1,6 +1,8 @@
 // Runs cases of tokens and of printed lists, good and damaged.
 // The cases are made by tools/format_cases.py; the expected output comes from outside: tools/expected_format_vectors.py
 // computes it from the rules.
+#![tactic(auto)]
+
 mod buffer;
 mod cases;
 mod lists;

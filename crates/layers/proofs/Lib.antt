@@ -1,4 +1,4 @@
 mod Ways
 mod Eights
-mod Hidden
+mod UnderMasks
 mod Nine

@@ -22,7 +22,7 @@ impl<P: Pile> Grouping<P> {
     // A grouping over a pile, which has stored no list yet; without memory for it, the pile is handed back.
     pub fn over(heap: Global, below: P) -> Result<Grouping<P>, AllocFailed<P>>
         ensures pile { IfOk result (λ g. g.below ≡ below) }
-        ensures meaning { IfOk result (λ g. grouping_meaning Digester-as-Hash.digested (stored_items g.stored) (P.Pile.meaning g.below) ≡ grouping_fresh (P.Pile.meaning below)) }
+        ensures meaning { IfOk result (λ g. grouping_meaning P.Digester.Hash.digested (stored_items g.stored) (P.Pile.meaning g.below) ≡ grouping_fresh (P.Pile.meaning below)) }
         ensures refused { IfErr result (λ y. y.value ≡ below) }
         ensures table { NineTable }
     {

@@ -1,4 +1,6 @@
 // Layers over any pile: groups of eight, and masks. They stand on each other in any order.
+#![tactic(auto)]
+
 mod behind;
 mod grouping;
 mod groups;

@@ -24,7 +24,7 @@ impl<P: Pile> Masking<P> {
     pub fn over(heap: Global, below: P, seed: Seed) -> Result<Masking<P>, AllocFailed<P>>
         ensures pile { IfOk result (λ m. m.below ≡ below) }
         ensures seed { IfOk result (λ m. m.seed ≡ seed) }
-        ensures meaning { IfOk result (λ m. masking_meaning Digester-as-Hash.digested m.seed m.second (stored_items m.stored) (P.Pile.meaning m.below) ≡ masking_fresh (P.Pile.meaning below)) }
+        ensures meaning { IfOk result (λ m. masking_meaning P.Digester.Hash.digested m.seed m.second (stored_items m.stored) (P.Pile.meaning m.below) ≡ masking_fresh (P.Pile.meaning below)) }
         ensures refused { IfErr result (λ y. y.value ≡ below) }
     {
         match Stored::none(heap) {

@@ -1,4 +1,6 @@
 // A token's bytes: what they say, and which byte strings are tokens.
+#![tactic(auto)]
+
 mod checking;
 mod fault;
 mod sizes;

@@ -1,4 +1,6 @@
 // Piles: what they mean, and the head, the bottom of every pile.
+#![tactic(auto)]
+
 mod head;
 mod pile;
 mod records;

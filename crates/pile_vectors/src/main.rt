@@ -1,5 +1,7 @@
 // Runs rounds of several sizes through stacks of layers over a head.
 // The expected output comes from outside: tools/expected_pile_vectors.py computes it from the rules with python3's hashlib.
+#![tactic(auto)]
+
 use anyhow::anyhow;
 use digest::{Digest, Hash, Seed};
 use layers::{Grouping, Masking};

@@ -1,4 +1,6 @@
 // Printed lists of calendar roots: read, held, looked up and written.
+#![tactic(auto)]
+
 mod entry;
 mod fault;
 mod holder;

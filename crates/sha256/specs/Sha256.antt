@@ -1,7 +1,7 @@
 -- SHA-256 of FIPS 180-4, on lists of bytes. A state is the eight words a to h.
 use Rattle.std.specs.Prelude.{◌≡◌, ℕ, zero, suc, ◌+◌, ◌-◌, ◌*◌, ◌/◌, ◌%◌, ◌<◌, List, [], ◌∷◌, ◌++◌, map, length, replicate, slice_index, slice_index_or, refl}
 use Rattle.std.proofs.Common.{arith}
-use Rattle.std.specs.List.{range_with_len, flat_map, AllByRecursion as All}
+use Rattle.std.specs.List.{range_with_len, flat_map, AllByRecursion}
 use Rattle.std.proofs.ByRecursion.{All-append, All-get_or}
 use Rattle.digest.specs.Blocks.{absorbed}
 use Rattle.digest.specs.declared.value.Digest.{Digest}
@@ -99,7 +99,7 @@ state_bytes s = flat_map word_bytes (s.a ∷ s.b ∷ s.c ∷ s.d ∷ s.e ∷ s.f
 unfoldable pub sha256_bytes : List ℕ → List ℕ
 sha256_bytes message = state_bytes (final message)
 
-words_small : (xs : List ℕ) → All (λ b. b < 256) (flat_map word_bytes xs)
+words_small : (xs : List ℕ) → AllByRecursion (λ b. b < 256) (flat_map word_bytes xs)
 words_small [] = tt
 words_small (x ∷ xs) =
     All-append (λ b. b < 256) (word_bytes x) (flat_map word_bytes xs) (omega arith, (omega arith, (omega arith, (omega arith, tt)))) (words_small xs)

@@ -1,4 +1,6 @@
 // SHA-256 of FIPS 180-4, proved equal to the standard's definition in specs/.
+#![tactic(auto)]
+
 mod compression;
 mod constants;
 mod hash;

@@ -1,4 +1,6 @@
 // The hash SHA3-256 of FIPS 202.
+#![tactic(auto)]
+
 mod hash;
 mod permutation;
 mod sponge;

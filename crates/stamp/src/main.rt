@@ -1,5 +1,7 @@
 // Stamps the two records of one ping, port and starboard, under each hash: their round is committed as one second of a
 // calendar, and each half gets a token, which is written to a file, read back and told; so is the printed root.
+#![tactic(auto)]
+
 mod files;
 mod tell;
 

@@ -1,4 +1,6 @@
 // A token as a reader over its bytes, with its links made ready for following.
+#![tactic(auto)]
+
 mod links;
 mod reading;
 mod refusal;

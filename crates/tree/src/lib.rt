@@ -1,4 +1,6 @@
 // Trees over lists of nodes, paths and shapes, for any kind of node with a joining.
+#![tactic(auto)]
+
 mod following;
 mod group;
 mod joining;

@@ -1,9 +1,9 @@
 // One step of a path: where the sibling stands, and the sibling.
-ghost use Rattle.std.specs.Prelude.{◌≡◌, Decides};
+ghost use Rattle.std.specs.Prelude.{◌≡◌, ◌==◌, Decides};
 ghost use Rattle.tree.specs.Sides.{side_number};
+ghost use Rattle.std.specs.Ordering.{on};
 ghost use Rattle.std.specs.Cmp.Rules.{comparing};
 ghost use Rattle.std.proofs.Common.{rules};
-ghost use Rattle.std.specs.Cmp as Keys;
 
 // Where the sibling stands: right of the node, or left of it.
 #[derive(Clone, Copy)]
@@ -24,12 +24,15 @@ impl Side {
     }
 }
 
-impl PartialEq<Side> for Side {
-    ghost equals = { λ a b r. Decides r (a ≡ b) };
+impl PartialEq for Side {
+    ghost eq = { on side_number ◌==◌ };
 
-    ghost laws = { Keys.partial_equiv_from_equiv (Prim.search (comparing, rules)) };
+    ghost laws = { Prim.search (comparing, rules) };
 
-    fn eq(&self, other: &Side) -> bool {
+    fn eq(&self, other: &Side) -> bool
+        ensures value { result ≡ on side_number ◌==◌ self.now other.now }
+        ensures exact { Decides result (self.now ≡ other.now) }
+    {
         match (*self, *other) {
             (Side::Right, Side::Right) => true,
             (Side::Left, Side::Left) => true,

@@ -1,5 +1,7 @@
 // Runs roots, paths and shapes for all sizes up to 70, and shapes under some large publications.
 // The expected output comes from outside: tools/expected_tree_vectors.py computes it from the rules with python3's hashlib.
+#![tactic(auto)]
+
 use anyhow::anyhow;
 use calendar::{Slice, calendar_path, calendar_root};
 use digest::{Digest, Hash};

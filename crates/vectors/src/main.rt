@@ -1,5 +1,7 @@
 // Runs the hashes and the tagged messages on published examples and on lengths around the ends of their blocks.
 // The expected output comes from outside: tools/expected_vectors.py computes it with python3's hashlib.
+#![tactic(auto)]
+
 use digest::{Digest, Hash, Seed, calendar_node, empty_second, leaf, mask, round_node};
 use sha3::Sha3;
 use sha256::Sha256;

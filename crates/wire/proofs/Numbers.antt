@@ -1,7 +1,7 @@
 -- Numbers in two and four bytes: written and read again, and read and written again.
-use Rattle.std.proofs.Common.{◌≡◌, ℕ, ◌+◌, ◌*◌, ◌/◌, ◌%◌, ◌^◌, ◌<◌, ◌≤◌, List, [], ◌∷◌, ◌++◌, length, get_or, take, drop, sym, refl, ap, ◌∙◌, ap₂, mod-eq_of_lt, div-add-mod', arith}
+use Rattle.std.proofs.Common.{◌≡◌, ℕ, ◌+◌, ◌*◌, ◌/◌, ◌%◌, ◌^◌, ◌<◌, ◌≤◌, List, [], ◌∷◌, ◌++◌, length, get_or, take, drop, sym, ap, ◌∙◌, ap₂, mod-eq_of_lt, div-add-mod', arith}
 use native.Mathlib.Nat.{div-div-eq-div-mul}
-use Rattle.std.proofs.lemmas.List.{drop_more, get_or-append-add, append_assoc}
+use Rattle.std.proofs.lemmas.List.{drop_more, get_or-append-add}
 use Rattle.digest.specs.Messages.{two_bytes, four_bytes}
 use Rattle.wire.specs.Bytes.{Bytes, pair_at, number_at}
 

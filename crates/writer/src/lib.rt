@@ -1,4 +1,6 @@
 // Tokens written from their fields.
+#![tactic(auto)]
+
 mod fields;
 mod writing;
 

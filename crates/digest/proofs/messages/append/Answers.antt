@@ -1,4 +1,4 @@
-use Rattle.std.proofs.Common.{◌≡◌, ◌+◌, ◌≤◌, ◌++◌, length, take, refl, ap, ◌∙◌, arith, rules}
+use Rattle.std.proofs.Common.{◌≡◌, ◌+◌, ◌≤◌, ◌++◌, length, take, refl, ap, ◌∙◌, rules}
 use Rattle.std.proofs.lemmas.Slice.{take-put_mid}
 use Rattle.digest.proofs.messages.append.Goals as goal
 

@@ -6,7 +6,7 @@ use Rattle.digest.specs.declared.seed.Seed.{Seed}
 use Rattle.digest.specs.Messages.{empty_message}
 use Rattle.pile.specs.Meaning.{round_join}
 use Rattle.layers.specs.Masking.{mask_at, masked}
-use Rattle.layers.proofs.Hidden.{length_masked, masked_at}
+use Rattle.layers.proofs.UnderMasks.{length_masked, masked_at}
 use Rattle.layers.proofs.masks.hide.Goals as goal
 
 pub loop-i-preserved : goal.loop-i-preserved

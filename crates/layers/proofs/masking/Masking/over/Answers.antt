@@ -1,6 +1,6 @@
 use Rattle.std.proofs.Common.{refl, ap, ◌∙◌}
 use Rattle.layers.specs.Masking.{masking_meaning}
-use Rattle.layers.proofs.Hidden.{masking_new}
+use Rattle.layers.proofs.UnderMasks.{masking_new}
 use Rattle.layers.proofs.masking.Masking.over.Goals as goal
 
 pub returns-in-Ok : goal.returns-in-Ok

@@ -5,7 +5,7 @@ use Rattle.pile.specs.Meaning.{Meaning, Law, EmptyLaw}
 use Rattle.pile.specs.Answers.{committed}
 use Rattle.pile.proofs.Answered.{served}
 use Rattle.layers.specs.Masking.{masked, masking_meaning, masking_seal}
-use Rattle.layers.proofs.Hidden.{masking_after, masking_law, masking_empty}
+use Rattle.layers.proofs.UnderMasks.{masking_after, masking_law, masking_empty}
 use Rattle.layers.specs.Kept.{stored_items}
 use Rattle.layers.proofs.masking.MaskingPile.commit.Goals as goal
 

@@ -1,7 +1,7 @@
 use Rattle.std.proofs.Common.{take, arith}
 use Rattle.pile.specs.Meaning.{Meaning}
 use Rattle.layers.specs.Masking.{masked_round}
-use Rattle.layers.proofs.Hidden.{masked_short}
+use Rattle.layers.proofs.UnderMasks.{masked_short}
 use Rattle.layers.specs.Kept.{stored_items}
 use Rattle.layers.proofs.masking.MaskingPile.deepest.Goals as goal
 

@@ -7,7 +7,7 @@ use Rattle.pile.proofs.Answered.{way_absent}
 use Rattle.layers.specs.Behind.{behind_answer, behind_written}
 use Rattle.layers.specs.Masking.{masking_meaning}
 use Rattle.layers.proofs.Ways.{same_answer, same_written}
-use Rattle.layers.proofs.Hidden.{masking_over}
+use Rattle.layers.proofs.UnderMasks.{masking_over}
 use Rattle.layers.specs.Kept.{stored_items}
 use Rattle.layers.proofs.masking.MaskingPile.way.Goals as goal
 

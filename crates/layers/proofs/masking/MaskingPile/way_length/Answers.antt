@@ -5,7 +5,7 @@ use Rattle.pile.specs.Meaning.{Meaning}
 use Rattle.pile.proofs.Answered.{length_absent}
 use Rattle.layers.specs.Masking.{masking_meaning}
 use Rattle.layers.proofs.Ways.{longer, gone}
-use Rattle.layers.proofs.Hidden.{masking_over}
+use Rattle.layers.proofs.UnderMasks.{masking_over}
 use Rattle.layers.specs.Kept.{stored_items}
 use Rattle.layers.proofs.masking.MaskingPile.way_length.Goals as goal
 

@@ -15,7 +15,7 @@ invariant_of-self c =
       ap length c.copy_from_slice.ensures.after,
       c.args.self.now.whole,
     ) in
-    (whole, (c.requires, tt))
+    record { whole = whole; fits = c.requires }
 
 pub returns : goal.returns
 returns c =
