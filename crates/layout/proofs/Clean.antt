@@ -1,9 +1,9 @@
 -- What holds of bytes without a fault.
-use Rattle.std.proofs.Common.{◌≡◌, ℕ, ◌+◌, ◌*◌, ◌^◌, ◌<◌, ◌≤◌, Bool, true, false, not, eqb, ltb, leb, List, [], ◌∷◌, length, get_or, Some, None, Option, sym, refl, ap, ◌∙◌, arith}
+use Rattle.std.proofs.Common.{◌≡◌, ℕ, ◌^◌, ◌<◌, ◌≤◌, true, List, ◌∷◌, length, get_or, Some, None, Option, refl, arith}
 use Rattle.std.specs.Option.{option_map}
-use Rattle.std.proofs.lemmas.Bool.{not-false, and_parts, eqb-true, ltb-false, leb-false}
+use Rattle.std.proofs.lemmas.Bool.{not-false, eqb-true, ltb-false, leb-false}
 use Rattle.wire.specs.Bytes.{pair_at, number_at}
-use Rattle.wire.specs.Faults.{when, first}
+use Rattle.wire.specs.Faults.{first}
 use Rattle.wire.proofs.Firsts.{none_held}
 use Rattle.layout.specs.declared.fault.Fault.{Fault}
 use Rattle.layout.specs.declared.fault.Fault.TheVariants.{Side}

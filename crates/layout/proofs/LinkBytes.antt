@@ -1,9 +1,9 @@
 -- Links written and read again, and read and written again.
-use Rattle.std.proofs.Common.{◌≡◌, ℕ, zero, suc, ◌+◌, ◌-◌, ◌*◌, ◌<◌, ◌≤◌, true, false, cond, eqb, ltb, List, [], ◌∷◌, ◌++◌, map, length, get_or, take, drop, Some, None, sym, refl, ap, ◌∙◌, ap₂, inl, inr, arith}
+use Rattle.std.proofs.Common.{◌≡◌, ℕ, zero, suc, ◌+◌, ◌*◌, ◌≤◌, false, ltb, List, [], ◌∷◌, ◌++◌, map, length, get_or, take, drop, Some, None, sym, refl, ap, ◌∙◌, ap₂, inl, inr, arith}
 use Rattle.std.specs.List.{flat_map}
 use Rattle.std.specs.Simd.{first_chunks}
-use Rattle.std.proofs.lemmas.List.{append_assoc, drop_more, take_all, take_at, drop_at, length-drop, length-take-le, get_or-drop, get_or-take, take-append-drop, map-append}
-use Rattle.std.proofs.lemmas.Bool.{cases_lt, cases_Bool, lt-ltb, cond-true, eq-eqb, ne_eqb, ltb-false, cond-false}
+use Rattle.std.proofs.lemmas.List.{append_assoc, drop_more, take_all, take_at, drop_at, length-drop, length-take-le, take-append-drop}
+use Rattle.std.proofs.lemmas.Bool.{cases_Bool, cond-true, ltb-false, cond-false}
 use Rattle.digest.specs.declared.value.Digest.{Digest}
 use Rattle.tree.specs.declared.link.Link.{Link}
 use Rattle.tree.specs.declared.link.Side.{Side}

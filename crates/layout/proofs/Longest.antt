@@ -1,7 +1,7 @@
 -- What is read is whole, and no token is longer than the longest.
-use Rattle.std.proofs.Common.{◌≡◌, ℕ, ◌+◌, ◌*◌, ◌<◌, ◌≤◌, List, map, length, take, drop, sym, ap, ◌∙◌, subst, arith}
+use Rattle.std.proofs.Common.{◌≡◌, ℕ, ◌+◌, List, map, length, take, drop, ◌∙◌, subst, arith}
 use Rattle.std.proofs.lemmas.List.{length-map, length-take-le, length-drop}
-use Rattle.layout.specs.Content.{Content, Whole}
+use Rattle.layout.specs.Content.{Whole}
 use Rattle.layout.specs.Faults.{token_fault}
 use Rattle.layout.specs.Laws.{LongestLaw}
 use Rattle.layout.specs.Parts.{round_count, calendar_count, links_in, link_of, parts_of, content}

@@ -1,12 +1,12 @@
 -- Bytes that read write back as they were.
-use Rattle.std.proofs.Common.{◌≡◌, ℕ, ◌+◌, ◌*◌, ◌<◌, ◌≤◌, true, List, [], ◌∷◌, ◌++◌, map, length, get_or, take, drop, sym, refl, ap, ◌∙◌, subst, ap₂, arith}
+use Rattle.std.proofs.Common.{◌≡◌, ℕ, ◌+◌, ◌≤◌, List, [], ◌∷◌, ◌++◌, map, length, get_or, take, drop, sym, refl, ap, ◌∙◌, ap₂, arith}
 use Rattle.std.proofs.lemmas.List.{take-append-drop, drop-drop, drop_more, length-drop, length-take-le, map-append, take_all}
 use Rattle.std.proofs.lemmas.Bool.{and_parts, eqb-true}
 use Rattle.digest.specs.Messages.{four_bytes}
-use Rattle.wire.specs.Bytes.{Bytes, pair_at, number_at, digest_of}
+use Rattle.wire.specs.Bytes.{Bytes, number_at, digest_of}
 use Rattle.wire.proofs.Digests.{digest_bytes}
 use Rattle.wire.proofs.Numbers.{number_written}
-use Rattle.layout.specs.Content.{Content, link_bytes, links_bytes, layout}
+use Rattle.layout.specs.Content.{link_bytes, links_bytes, layout}
 use Rattle.layout.specs.Faults.{token_fault}
 use Rattle.layout.specs.Laws.{ReadLaw}
 use Rattle.layout.specs.Parts.{round_count, calendar_count, links_in, link_of, parts_of, content}

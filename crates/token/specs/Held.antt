@@ -1,5 +1,5 @@
 -- What a reader holds, and what it answers.
-use Rattle.std.specs.Prelude.{List, Ok, Err, Result}
+use Rattle.std.specs.Prelude.{Ok, Err, Result}
 use Rattle.layout.specs.declared.fault.Fault.{Fault}
 use Rattle.token.specs.declared.token.Token.{Token}
 use Rattle.layout.specs.Parts.{Parts}

@@ -2,7 +2,7 @@ use Rattle.std.proofs.Common.{◌≡◌, ℕ, ◌-◌, ◌<◌, not, [], ◌++�
 use borrow.Rule.Slice.PartMut.{put_mid}
 use Rattle.std.proofs.lemmas.List.{length-append, take_rest, length-drop}
 use Rattle.pile.specs.Meaning.{Meaning, Way}
-use Rattle.pile.specs.Answers.{way_length, way_written}
+use Rattle.pile.specs.Answers.{way_written}
 use Rattle.pile.proofs.Answered.{way_ok, way_err}
 use Rattle.layers.proofs.Ways.{present, behind_short, behind_fits, put_back, put_front}
 use Rattle.layers.proofs.behind.behind.Goals as goal

@@ -1,4 +1,4 @@
-use Rattle.std.proofs.Common.{◌+◌, ◌-◌, ◌*◌, min, arith}
+use Rattle.std.proofs.Common.{◌+◌, ◌-◌, ◌*◌, arith}
 use Rattle.layers.proofs.Eights.{group_part}
 use Rattle.layers.proofs.groups.group.Goals as goal
 

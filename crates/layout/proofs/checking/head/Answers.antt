@@ -1,4 +1,4 @@
-use Rattle.std.proofs.Common.{◌≡◌, ℕ, true, false, List, sym, ◌∙◌, arith, rules}
+use Rattle.std.proofs.Common.{◌≡◌, ℕ, true, List, ◌∙◌, arith, rules}
 use Rattle.wire.specs.Bytes.{pair_at}
 use Rattle.layout.specs.Faults.{marked}
 use Rattle.layout.proofs.Faulted.{marked_by, unmarked, rest_first, at_short, at_mark, at_version, at_hash, at_round, at_calendar, at_length, past_length}

@@ -1,4 +1,4 @@
-use Rattle.std.proofs.Common.{◌≡◌, drop, sym, ◌∙◌, ap₂}
+use Rattle.std.proofs.Common.{drop, sym, ◌∙◌, ap₂}
 use Rattle.digest.specs.declared.value.Digest.{Digest}
 use Rattle.tree.specs.declared.link.Side.{Side}
 use Rattle.tree.specs.declared.link.Link.{Link}

@@ -1,6 +1,6 @@
-use Rattle.std.proofs.Common.{◌≡◌, ℕ, List, length, take, drop, sym, refl, ap, ◌∙◌, arith}
+use Rattle.std.proofs.Common.{◌≡◌, ℕ, List, take, drop, ap, ◌∙◌}
 use Rattle.std.proofs.lemmas.List.{take_rest}
-use Rattle.layout.specs.Parts.{Parts, links_in, round_count, parts_of}
+use Rattle.layout.specs.Parts.{Parts, links_in, round_count}
 use Rattle.layout.proofs.Links.{links_are}
 use Rattle.token.proofs.reading.parted.Goals as goal
 

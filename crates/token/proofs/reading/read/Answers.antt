@@ -4,7 +4,7 @@ use Rattle.layout.specs.Content.{layout}
 use Rattle.layout.specs.Faults.{token_fault}
 use Rattle.wire.specs.Faults.{unless}
 use Rattle.layout.specs.Parts.{parts_of, content}
-use Rattle.layout.proofs.Clean.{Clean, clean}
+use Rattle.layout.proofs.Clean.{clean}
 use Rattle.wire.proofs.Firsts.{unless_ok, unless_err}
 use Rattle.layout.proofs.ReadBack.{read_back}
 use Rattle.token.proofs.reading.read.Goals as goal

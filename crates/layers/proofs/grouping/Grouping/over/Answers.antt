@@ -6,7 +6,7 @@ use Rattle.layers.proofs.grouping.Grouping.over.Goals as goal
 
 pub returns-in-Ok : goal.returns-in-Ok
 returns-in-Ok g c =
-    let digested = g.Digester.Hash.digested in
+    let digested = g.P.Digester.Hash.digested in
     let m = g.P.Pile.meaning c.args.below in
     record {
       pile = refl;

@@ -5,7 +5,7 @@ use Rattle.layers.proofs.masking.Masking.over.Goals as goal
 
 pub returns-in-Ok : goal.returns-in-Ok
 returns-in-Ok g c =
-    let digested = g.Digester.Hash.digested in
+    let digested = g.P.Digester.Hash.digested in
     let seed = c.args.seed in
     let m = g.P.Pile.meaning c.args.below in
     record {

@@ -1,4 +1,4 @@
-use Rattle.std.proofs.Common.{take, arith}
+use Rattle.std.proofs.Common.{arith}
 use Rattle.pile.specs.Meaning.{Meaning}
 use Rattle.layers.specs.Masking.{masked_round}
 use Rattle.layers.proofs.UnderMasks.{masked_short}

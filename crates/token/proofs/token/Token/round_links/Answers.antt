@@ -1,4 +1,4 @@
-use Rattle.std.proofs.Common.{sym, ap, ◌∙◌, arith, rules}
+use Rattle.std.proofs.Common.{sym, ap, ◌∙◌, rules}
 use Rattle.std.proofs.lemmas.List.{take-map}
 use Rattle.tree.specs.Answers.{over}
 use Rattle.layout.specs.Parts.{link_of}
