@@ -1,5 +1,5 @@
 -- The parts of a token, one behind another, are its layout.
-use Rattle.std.proofs.Common.{◌≡◌, ℕ, List, [], ◌∷◌, ◌++◌, length, sym, refl, ap, ◌∙◌, ap₂}
+use Rattle.std.proofs.Common.{◌≡◌, ℕ, List, [], ◌∷◌, ◌++◌, length, ◌∙◌, ap₂}
 use Rattle.std.proofs.lemmas.List.{append_assoc}
 use Rattle.digest.specs.Messages.{four_bytes}
 use Rattle.layout.specs.Content.{Content, links_bytes, layout}

@@ -1,7 +1,7 @@
-use Rattle.std.proofs.Common.{◌≡◌, ℕ, ◌+◌, ◌*◌, List, [], ◌∷◌, ◌++◌, length, sym, refl, ap, ◌∙◌, arith}
+use Rattle.std.proofs.Common.{◌≡◌, ℕ, List, [], ◌∷◌, ◌++◌, length, refl, ap, ◌∙◌, arith}
 use Rattle.std.proofs.lemmas.List.{length-append}
 use Rattle.tree.specs.Answers.{over}
-use Rattle.layout.specs.Content.{Content, links_bytes, layout}
+use Rattle.layout.specs.Content.{Content, links_bytes}
 use Rattle.writer.specs.Said.{said}
 use Rattle.writer.proofs.LaidOut.{laid_out}
 use Rattle.layout.proofs.Links.{length_links}

@@ -1,4 +1,4 @@
-use Rattle.std.proofs.Common.{◌≡◌, ℕ, length, Ok, sym, refl, ap, ◌∙◌, arith}
+use Rattle.std.proofs.Common.{length, Ok, refl, ap, ◌∙◌, arith}
 use Rattle.layout.specs.Content.{Whole}
 use Rattle.writer.specs.Said.{said}
 use Rattle.writer.proofs.Refused.{at_round, at_calendar, at_publication, at_second, at_short, past_all}
