@@ -5,11 +5,11 @@ use Rattle.digest.specs.declared.value.Digest.{Digest}
 use Rattle.digest.proofs.SameDigest.{same_digest}
 use Rattle.wire.specs.Bytes.{Bytes, front_bytes, front_whole, digest_of}
 
-get_d_front : (n : ℕ) (xs : List ℕ) (k : ℕ) → k < n → get_or (front_bytes n xs) k 0 ≡ get_or xs k 0 % 256
-get_d_front zero xs k h = absurd (omega arith)
-get_d_front (suc n) xs zero h = refl
-get_d_front (suc n) xs (suc k) h =
-    get_d_front n (drop 1 xs) k (omega arith) ∙ ap (λ b. b % 256) (get_or-drop 1 xs k 0 ∙ ap (λ j. get_or xs j 0) (omega arith))
+get_or_front : (n : ℕ) (xs : List ℕ) (k : ℕ) → k < n → get_or (front_bytes n xs) k 0 ≡ get_or xs k 0 % 256
+get_or_front zero xs k h = absurd (omega arith)
+get_or_front (suc n) xs zero h = refl
+get_or_front (suc n) xs (suc k) h =
+    get_or_front n (drop 1 xs) k (omega arith) ∙ ap (λ b. b % 256) (get_or-drop 1 xs k 0 ∙ ap (λ j. get_or xs j 0) (omega arith))
 
 -- bytes at the front of a list are its first bytes
 front_is : (n : ℕ) (xs ys : List ℕ) → length ys ≡ n → ys ≡ take n xs → ((k : ℕ) → k < n → get_or ys k 0 < 256)
@@ -18,7 +18,7 @@ front_is n xs ys size is fits =
     ext_get_or 0 (front_bytes n xs) ys (front_whole n xs ∙ sym size) (λ i h.
     let low : i < n = omega (arith, front_whole n xs) in
     let same : get_or ys i 0 ≡ get_or xs i 0 = ap (λ zs. get_or zs i 0) is ∙ get_or-take n xs i 0 low in
-    get_d_front n xs i low ∙ omega (arith, fits i low))
+    get_or_front n xs i low ∙ omega (arith, fits i low))
 
 -- a digest whose bytes stand at the front of a list is the list's
 pub digest_is : (d : Digest) (xs : List ℕ) → d.bytes ≡ take 32 xs → digest_of xs ≡ d
