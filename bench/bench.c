@@ -13,7 +13,7 @@ struct place {
     uint8_t bytes[32];
 };
 
-/* crates/chashes: a Rattle slice is a pointer and then a length */
+/* crates/chashes_c: a Rattle slice is a pointer and then a length */
 uint8_t rundapiyo_sha256(const uint8_t *message, size_t length, struct place *out);
 uint8_t rundapiyo_sha3_256(const uint8_t *message, size_t length, struct place *out);
 

@@ -1,4 +1,5 @@
-// The two hashes for C: a message as pointer and length, 32 bytes of the caller's for the digest, and 0 or a refusal's number.
+// The two hashes as C is given them: 32 bytes of the caller's for the digest, and 0 or a refusal's number.
+// `chashes_c` exports them.
 #![tactic(auto)]
 
 ghost use Rattle.std.specs.Prelude.{◌≡◌};
@@ -31,8 +32,7 @@ fn digest_into<H: Hash>(message: &[u8], out: &mut Place) -> u8
 }
 
 // The SHA-256 digest of a message.
-#[unsafe(no_mangle)]
-pub extern "C" fn rundapiyo_sha256(message: &[u8], out: &mut Place) -> u8
+pub fn rundapiyo_sha256(message: &[u8], out: &mut Place) -> u8
     ensures outcome { result ≡ told (answered sha256 message.now) }
     ensures after { out.new ≡ placed (answered sha256 message.now) out.old }
 {
@@ -40,8 +40,7 @@ pub extern "C" fn rundapiyo_sha256(message: &[u8], out: &mut Place) -> u8
 }
 
 // The SHA3-256 digest of a message.
-#[unsafe(no_mangle)]
-pub extern "C" fn rundapiyo_sha3_256(message: &[u8], out: &mut Place) -> u8
+pub fn rundapiyo_sha3_256(message: &[u8], out: &mut Place) -> u8
     ensures outcome { result ≡ told (answered sha3_256 message.now) }
     ensures after { out.new ≡ placed (answered sha3_256 message.now) out.old }
 {
