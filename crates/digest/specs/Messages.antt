@@ -15,13 +15,17 @@ four_bytes n = n / 16777216 % 256 ∷ n / 65536 % 256 ∷ n / 256 % 256 ∷ n % 
 abbrev pub leaf_message : Digest → List ℕ
 leaf_message recorded = 0 ∷ recorded.bytes
 
+-- two nodes joined, under the tag of their tree
+abbrev pub node_message : ℕ → Digest → Digest → List ℕ
+node_message tag left right = tag ∷ left.bytes ++ right.bytes
+
 -- two nodes of a round, joined
 abbrev pub round_message : Digest → Digest → List ℕ
-round_message left right = 1 ∷ left.bytes ++ right.bytes
+round_message left right = node_message 1 left right
 
 -- two nodes of the calendar, joined
 abbrev pub calendar_message : Digest → Digest → List ℕ
-calendar_message left right = 2 ∷ left.bytes ++ right.bytes
+calendar_message left right = node_message 2 left right
 
 -- a second in which no record came
 abbrev pub empty_message : List ℕ

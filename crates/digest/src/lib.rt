@@ -1,7 +1,6 @@
 // Digests, what a hash is, and the digests of the messages that rounds and the calendar are made of.
 #![tactic(auto)]
 
-mod equality;
 mod hash;
 mod messages;
 mod refusal;
@@ -10,7 +9,7 @@ mod text;
 mod value;
 
 pub use hash::{Hash, LONGEST};
-pub use messages::{calendar_node, empty_second, leaf, mask, round_node};
+pub use messages::{CALENDAR, ROUND, empty_second, leaf, mask, node};
 pub use refusal::Refusal;
 pub use seed::Seed;
 pub use value::Digest;

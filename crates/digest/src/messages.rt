@@ -1,7 +1,7 @@
 // The digests of the tagged messages, over any hash. None is above 65 bytes, so no hash refuses one.
 ghost use Rattle.std.specs.Prelude.{◌≡◌, ◌+◌, ◌≤◌, ◌∷◌, ◌++◌, length, take};
 ghost use Rattle.digest.specs.Hashes.{longest};
-ghost use Rattle.digest.specs.Messages.{leaf_message, round_message, calendar_message, empty_message, mask_message};
+ghost use Rattle.digest.specs.Messages.{leaf_message, node_message, empty_message, mask_message};
 
 use crate::hash::Hash;
 use crate::seed::Seed;
@@ -9,9 +9,11 @@ use crate::value::Digest;
 
 const LEAF: u8 = 0;
 
-const ROUND: u8 = 1;
+// The tag of the nodes of a round.
+pub const ROUND: u8 = 1;
 
-const CALENDAR: u8 = 2;
+// The tag of the nodes of the calendar.
+pub const CALENDAR: u8 = 2;
 
 const EMPTY: u8 = 3;
 
@@ -41,7 +43,7 @@ fn append(message: &mut [u8], at: usize, part: &[u8]) -> usize
 
 // A tag and two digests behind it.
 fn joined(tag: u8, left: &Digest, right: &Digest) -> [u8; 65]
-    ensures { result ≡ tag ∷ left.now.bytes ++ right.now.bytes }
+    ensures { result ≡ node_message tag left.now right.now }
 {
     let mut message = [tag; 65];
     let middle = append(&mut message, 1, left.as_bytes());
@@ -69,18 +71,11 @@ pub fn leaf<H: Hash>(of: &Digest) -> Digest
     of_short::<H>(&message)
 }
 
-// Two nodes of a round, joined.
-pub fn round_node<H: Hash>(left: &Digest, right: &Digest) -> Digest
-    ensures { result ≡ H.Hash.digested (round_message left.now right.now) }
+// Two nodes joined, under the tag of their tree.
+pub fn node<H: Hash, const TAG: u8>(left: &Digest, right: &Digest) -> Digest
+    ensures { result ≡ H.Hash.digested (node_message TAG left.now right.now) }
 {
-    of_short::<H>(&joined(ROUND, left, right))
-}
-
-// Two nodes of the calendar, joined.
-pub fn calendar_node<H: Hash>(left: &Digest, right: &Digest) -> Digest
-    ensures { result ≡ H.Hash.digested (calendar_message left.now right.now) }
-{
-    of_short::<H>(&joined(CALENDAR, left, right))
+    of_short::<H>(&joined(TAG, left, right))
 }
 
 // A second in which no record came.

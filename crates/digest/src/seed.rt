@@ -6,14 +6,16 @@ pub struct Seed {
     bytes: [u8; 32],
 }
 
-impl Seed {
-    // The seed with these bytes.
-    pub fn of(bytes: [u8; 32]) -> Seed
-        ensures { result.bytes ≡ bytes }
-    {
+// The seed with these bytes.
+impl From<[u8; 32]> for Seed {
+    ghost from_gives = { λ bytes seed. seed.bytes ≡ bytes };
+
+    fn from(bytes: [u8; 32]) -> Seed {
         Seed { bytes }
     }
+}
 
+impl Seed {
     // Its bytes, lent.
     pub fn as_bytes(&self) -> &[u8; 32]
         ensures { result.now ≡ self.now.bytes }

@@ -4,5 +4,5 @@ use Rattle.digest.specs.Text.{hexadecimal}
 use Rattle.digest.proofs.text.DigestDisplay.fmt.Given as goal
 
 -- the digits of the bytes so far are written
-abbrev pub invariant-loop-b : goal.invariant-loop-b
-invariant-loop-b g l = IsPlainFormatter l.initial.f → HasWritten g.W.Write.write_str_gives l.initial.f (hexadecimal (take l.b-index l.self.bytes)) l.f
+abbrev pub invariant-loop-byte : goal.invariant-loop-byte
+invariant-loop-byte g l = IsPlainFormatter l.initial.f → HasWritten g.W.Write.write_str_gives l.initial.f (hexadecimal (take l.byte-index l.self.bytes)) l.f
