@@ -1,8 +1,8 @@
 // How two nodes become one: what the trees over a kind of node need, and no more.
 ghost use Rattle.std.specs.Prelude.{◌≡◌};
-ghost use Rattle.digest.specs.Messages.{round_message, calendar_message};
+ghost use Rattle.digest.specs.Messages.{node_message};
 
-use digest::{Digest, Hash, calendar_node, round_node};
+use digest::{CALENDAR, Digest, Hash, ROUND, node};
 use std::marker::PhantomData;
 
 pub trait Joining {
@@ -16,32 +16,23 @@ pub trait Joining {
         ensures { result ≡ joined left.now right.now };
 }
 
-// The nodes of a round, under a hash.
-pub struct RoundNodes<H> {
+// The nodes of the trees with a tag, under a hash.
+pub struct Nodes<H, const TAG: u8> {
     hash: PhantomData<H>,
 }
 
-impl<H: Hash> Joining for RoundNodes<H> {
+// The nodes of a round.
+pub type RoundNodes<H> = Nodes<H, ROUND>;
+
+// The nodes of the calendar.
+pub type CalendarNodes<H> = Nodes<H, CALENDAR>;
+
+impl<H: Hash, const TAG: u8> Joining for Nodes<H, TAG> {
     type Node = Digest;
 
-    ghost joined = { λ left right. H.Hash.digested (round_message left right) };
+    ghost joined = { λ left right. H.Hash.digested (node_message TAG left right) };
 
     fn join(left: &Digest, right: &Digest) -> Digest {
-        round_node::<H>(left, right)
-    }
-}
-
-// The nodes of the calendar, under a hash.
-pub struct CalendarNodes<H> {
-    hash: PhantomData<H>,
-}
-
-impl<H: Hash> Joining for CalendarNodes<H> {
-    type Node = Digest;
-
-    ghost joined = { λ left right. H.Hash.digested (calendar_message left right) };
-
-    fn join(left: &Digest, right: &Digest) -> Digest {
-        calendar_node::<H>(left, right)
+        node::<H, TAG>(left, right)
     }
 }

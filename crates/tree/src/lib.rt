@@ -11,7 +11,7 @@ mod shapes;
 
 pub use following::follow;
 pub use group::{path, root};
-pub use joining::{CalendarNodes, Joining, RoundNodes};
+pub use joining::{CalendarNodes, Joining, Nodes, RoundNodes};
 pub use link::{Link, Side};
 pub use parting::split;
 pub use refusal::PathRefusal;
