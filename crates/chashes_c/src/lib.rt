@@ -7,7 +7,9 @@ ghost use Rattle.sha256.specs.Sha256.{sha256};
 ghost use Rattle.sha3.specs.Sha3.{sha3_256};
 ghost use Rattle.chashes.specs.Told.{told, placed};
 
-use chashes::Place;
+use chashes::{Place, digest_into};
+use sha3::Sha3;
+use sha256::Sha256;
 
 // The SHA-256 digest of a message.
 #[unsafe(no_mangle)]
@@ -15,7 +17,7 @@ pub extern "C" fn rundapiyo_sha256(message: &[u8], out: &mut Place) -> u8
     ensures outcome { result ≡ told (answered sha256 message.now) }
     ensures after { out.new ≡ placed (answered sha256 message.now) out.old }
 {
-    chashes::rundapiyo_sha256(message, out)
+    digest_into::<Sha256>(message, out)
 }
 
 // The SHA3-256 digest of a message.
@@ -24,5 +26,5 @@ pub extern "C" fn rundapiyo_sha3_256(message: &[u8], out: &mut Place) -> u8
     ensures outcome { result ≡ told (answered sha3_256 message.now) }
     ensures after { out.new ≡ placed (answered sha3_256 message.now) out.old }
 {
-    chashes::rundapiyo_sha3_256(message, out)
+    digest_into::<Sha3>(message, out)
 }

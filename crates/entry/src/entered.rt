@@ -4,7 +4,7 @@ ghost use Rattle.entry.specs.Entered.{entered};
 
 use digest::{Digest, Hash, Refusal, leaf};
 
-#[derive(Clone, Copy)]
+#[derive(Clone, Copy, Debug, PartialEq, Eq)]
 pub struct Entry {
     pub digest: Digest,
     pub leaf: Digest,

@@ -58,6 +58,6 @@ impl Hash for Sha256 {
         if message.len() > LONGEST {
             return Err(Refusal::TooLong);
         }
-        Ok(Digest::of(hashed(message)))
+        Ok(Digest::from(hashed(message)))
     }
 }

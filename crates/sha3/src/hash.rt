@@ -26,6 +26,6 @@ impl Hash for Sha3 {
         if message.len() > LONGEST {
             return Err(Refusal::TooLong);
         }
-        Ok(Digest::of(squeeze(&sponge(message))))
+        Ok(Digest::from(squeeze(&sponge(message))))
     }
 }

@@ -2,10 +2,11 @@
 // The expected output comes from outside: tools/expected_vectors.py computes it with python3's hashlib.
 #![tactic(auto)]
 
-use digest::{Digest, Hash, Seed, calendar_node, empty_second, leaf, mask, round_node};
+use digest::{CALENDAR, Digest, Hash, ROUND, Seed, empty_second, leaf, mask, node};
 use sha3::Sha3;
 use sha256::Sha256;
 use std::alloc::{AllocError, Global};
+use std::array;
 
 // Lengths at which a block or its padding ends or begins, for both hashes, and the longest message with its neighbours.
 const LENGTHS: [usize; 32] = [
@@ -13,33 +14,27 @@ const LENGTHS: [usize; 32] = [
     137, 271, 272, 273, 1000, 16384, 65535, 65536, 65537,
 ];
 
+// The standards' own examples, but for the long one.
+const PUBLISHED: [(&str, &[u8]); 4] = [
+    ("empty", b""),
+    ("abc", b"abc"),
+    ("448 bits", b"abcdbcdecdefdefgefghfghighijhijkijkljklmklmnlmnomnopnopq"),
+    (
+        "896 bits",
+        b"abcdefghbcdefghicdefghijdefghijkefghijklfghijklmghijklmnhijklmnoijklmnopjklmnopqklmnopqrlmnopqrsmnopqrstnopqrstu",
+    ),
+];
+
 // Bytes that differ from their neighbours: 17, 148, 23, and so on by 131.
 fn pattern(heap: Global, length: usize) -> Result<Vec<u8>, AllocError> {
-    let mut bytes = Vec::with_capacity(heap, length)?;
-    let mut byte = 17u8;
-    for _ in 0..length {
-        bytes.push(byte)?;
-        byte = byte.wrapping_add(131);
-    }
-    Ok(bytes)
+    (0..length)
+        .map(|i| ((17 + 131 * (i % 256)) % 256) as u8)
+        .collect(heap)
 }
 
-fn repeated(heap: Global, byte: u8, length: usize) -> Result<Vec<u8>, AllocError> {
-    let mut bytes = Vec::with_capacity(heap, length)?;
-    for _ in 0..length {
-        bytes.push(byte)?;
-    }
-    Ok(bytes)
-}
-
+// 32 bytes that count up from a first one.
 fn row(first: u8) -> Digest {
-    let mut bytes = [0u8; 32];
-    let mut byte = first;
-    for place in bytes.iter_mut() {
-        *place = byte;
-        byte = byte.wrapping_add(1);
-    }
-    Digest::of(bytes)
+    Digest::from(array::from_fn(|i| first.wrapping_add((i & 0xff) as u8)))
 }
 
 fn line<H: Hash>(rt: &HostRuntime, name: &str, label: &str, message: &[u8]) -> anyhow::Result<()> {
@@ -53,23 +48,11 @@ fn line<H: Hash>(rt: &HostRuntime, name: &str, label: &str, message: &[u8]) -> a
     Ok(())
 }
 
-// The standards' own examples.
 fn published<H: Hash>(rt: &HostRuntime, name: &str) -> anyhow::Result<()> {
-    line::<H>(rt, name, "empty", b"")?;
-    line::<H>(rt, name, "abc", b"abc")?;
-    line::<H>(
-        rt,
-        name,
-        "448 bits",
-        b"abcdbcdecdefdefgefghfghighijhijkijkljklmklmnlmnomnopnopq",
-    )?;
-    line::<H>(
-        rt,
-        name,
-        "896 bits",
-        b"abcdefghbcdefghicdefghijdefghijkefghijklfghijklmghijklmnhijklmnoijklmnopjklmnopqklmnopqrlmnopqrsmnopqrstnopqrstu",
-    )?;
-    let many = repeated(rt.alloc(), 0xa3, 200)?;
+    for (label, message) in PUBLISHED {
+        line::<H>(rt, name, label, message)?;
+    }
+    let many = vec![in rt.alloc(); 0xa3; 200]?;
     line::<H>(rt, name, "200 of a3", many.as_slice())
 }
 
@@ -87,13 +70,13 @@ fn tagged<H: Hash>(rt: &HostRuntime, name: &str) -> anyhow::Result<()> {
     let right = row(32);
     let digest = leaf::<H>(&left);
     println!(rt; "{name} leaf: {digest}")?;
-    let digest = round_node::<H>(&left, &right);
+    let digest = node::<H, ROUND>(&left, &right);
     println!(rt; "{name} round node: {digest}")?;
-    let digest = calendar_node::<H>(&left, &right);
+    let digest = node::<H, CALENDAR>(&left, &right);
     println!(rt; "{name} calendar node: {digest}")?;
     let digest = empty_second::<H>();
     println!(rt; "{name} empty second: {digest}")?;
-    let digest = mask::<H>(&Seed::of(*right.as_bytes()), 0x01020304, 0x0506);
+    let digest = mask::<H>(&Seed::from(*right.as_bytes()), 0x01020304, 0x0506);
     println!(rt; "{name} mask: {digest}")?;
     Ok(())
 }
@@ -106,11 +89,7 @@ fn all<H: Hash>(rt: &HostRuntime, name: &str) -> anyhow::Result<()> {
     tagged::<H>(rt, name)
 }
 
-fn run(rt: &HostRuntime) -> anyhow::Result<()> {
-    all::<Sha256>(rt, "SHA-256")?;
-    all::<Sha3>(rt, "SHA3-256")
-}
-
 fn main(rt: HostRuntime) -> anyhow::Result<()> {
-    run(&rt)
+    all::<Sha256>(&rt, "SHA-256")?;
+    all::<Sha3>(&rt, "SHA3-256")
 }

@@ -9,5 +9,5 @@ pub returns : goal.returns
 unfolding sha256
 returns c =
     let m = c.args.message.now in
-    cond_above 65536 (length m) (Err TooLong) (Ok (sha256 m)) (Ok c.of.result) (omega arith)
-    (ap Ok (same_digest c.of.result (sha256 m) (c.of.ensures ∙ c.hashed.ensures)))
+    cond_above 65536 (length m) (Err TooLong) (Ok (sha256 m)) (Ok c.from.result) (omega arith)
+    (ap Ok (same_digest c.from.result (sha256 m) (c.from.ensures ∙ c.hashed.ensures)))

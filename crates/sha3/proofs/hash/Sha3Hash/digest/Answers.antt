@@ -8,6 +8,6 @@ pub returns : goal.returns
 unfolding sha3_256
 returns c =
     let message = c.args.message.now in
-    let bytes : c.of.result.bytes ≡ squeezed (soaked message) = cc in
+    let bytes : c.from.result.bytes ≡ squeezed (soaked message) = cc in
     let short : length message ≤ 65536 = omega arith in
-    cond_above _ _ _ _ _ short (ap Ok (same_digest c.of.result (sha3_256 message) bytes))
+    cond_above _ _ _ _ _ short (ap Ok (same_digest c.from.result (sha3_256 message) bytes))
