@@ -18,7 +18,10 @@ const LENGTHS: [usize; 32] = [
 const PUBLISHED: [(&str, &[u8]); 4] = [
     ("empty", b""),
     ("abc", b"abc"),
-    ("448 bits", b"abcdbcdecdefdefgefghfghighijhijkijkljklmklmnlmnomnopnopq"),
+    (
+        "448 bits",
+        b"abcdbcdecdefdefgefghfghighijhijkijkljklmklmnlmnomnopnopq",
+    ),
     (
         "896 bits",
         b"abcdefghbcdefghicdefghijdefghijkefghijklfghijklmghijklmnhijklmnoijklmnopjklmnopqklmnopqrlmnopqrsmnopqrstnopqrstu",
