@@ -9,10 +9,10 @@ use Rattle.sha256.specs.Tail.{tail_blocks, tail}
 
 -- a byte at the end of what a copy wrote into n zeros
 pub marked_is : (n : ℕ) (rest ys : List ℕ) → length rest < n → ys ≡ rest
-    → set (ys ++ post_of 0 (length rest - 0) (replicate n 0)) (length rest) 0x80 ≡ rest ++ 0x80 ∷ replicate (n - 1 - length rest) 0
+    → set (ys ++ drop (length rest) (replicate n 0)) (length rest) 0x80 ≡ rest ++ 0x80 ∷ replicate (n - 1 - length rest) 0
 marked_is n rest ys h e =
-    let left : n - (length rest - 0) ≡ suc (n - 1 - length rest) = omega arith in
-    rw (e, drop-replicate {X = ℕ} (length rest - 0) n 0, left) (set_at rest 0 (replicate (n - 1 - length rest) 0) 0x80 (length rest) refl)
+    let left : n - length rest ≡ suc (n - 1 - length rest) = omega arith in
+    rw (e, drop-replicate {X = ℕ} (length rest) n 0, left) (set_at rest 0 (replicate (n - 1 - length rest) 0) 0x80 (length rest) refl)
 
 -- eight bytes over the zeros behind the z that stay; q zeros are left
 module _ (rest eight : List ℕ) (z q : ℕ) where

@@ -3,5 +3,7 @@ pub mod Steps
 pub mod Ends
 pub mod Absorbing
 pub mod Choice
-pub mod Written
+pub mod Turns
+pub mod Made
+pub mod Chunks
 pub mod Keys

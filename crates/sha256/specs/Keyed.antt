@@ -13,6 +13,6 @@ key W t = slice_index_or K t 0 ⊞ slice_index_or W t 0
 unfoldable pub keyed : List ℕ → List ℕ
 keyed W = map (key W) (range_with_len 0 64)
 
--- round t, with the keyed schedule X
-unfoldable pub keyed_round : List ℕ → State → ℕ → State
-keyed_round X s t = turned s (s.h ⊞ Σ1 s.e ⊞ Ch s.e s.f s.g ⊞ slice_index_or X t 0) (T₂ s)
+-- a round, with its entry of the keyed schedule
+unfoldable pub keyed_round : State → ℕ → State
+keyed_round s x = turned s (s.h ⊞ Σ1 s.e ⊞ Ch s.e s.f s.g ⊞ x) (T₂ s)

@@ -24,17 +24,25 @@ Ch x y z = bit_xor (bit_and x y) (bit_and (complement x) z)
 unfoldable pub Maj : ℕ → ℕ → ℕ → ℕ
 Maj x y z = bit_xor (bit_xor (bit_and x y) (bit_and x z)) (bit_and y z)
 
+-- x turned by a, by b and by c
+unfoldable pub Σ : ℕ → ℕ → ℕ → ℕ → ℕ
+Σ a b c x = bit_xor (bit_xor (ROTR a x) (ROTR b x)) (ROTR c x)
+
 unfoldable pub Σ0 : ℕ → ℕ
-Σ0 x = bit_xor (bit_xor (ROTR 2 x) (ROTR 13 x)) (ROTR 22 x)
+Σ0 x = Σ 2 13 22 x
 
 unfoldable pub Σ1 : ℕ → ℕ
-Σ1 x = bit_xor (bit_xor (ROTR 6 x) (ROTR 11 x)) (ROTR 25 x)
+Σ1 x = Σ 6 11 25 x
+
+-- x turned by a and by b, and moved by c
+unfoldable pub σ : ℕ → ℕ → ℕ → ℕ → ℕ
+σ a b c x = bit_xor (bit_xor (ROTR a x) (ROTR b x)) (SHR c x)
 
 unfoldable pub σ0 : ℕ → ℕ
-σ0 x = bit_xor (bit_xor (ROTR 7 x) (ROTR 18 x)) (SHR 3 x)
+σ0 x = σ 7 18 3 x
 
 unfoldable pub σ1 : ℕ → ℕ
-σ1 x = bit_xor (bit_xor (ROTR 17 x) (ROTR 19 x)) (SHR 10 x)
+σ1 x = σ 17 19 10 x
 
 -- word t of a block of bytes, highest byte first
 abbrev pub word : List ℕ → ℕ → ℕ

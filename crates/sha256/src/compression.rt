@@ -1,23 +1,24 @@
 // One block of 64 bytes, taken into the state.
-ghost use Rattle.std.specs.Prelude.{◌≡◌, ◌+◌, ◌<◌, ◌≤◌, length};
+ghost use Rattle.std.specs.Prelude.{◌≡◌};
+ghost use Rattle.std.specs.List.{fold};
 ghost use Rattle.sha256.specs.Keyed.{keyed, keyed_round};
-ghost use Rattle.sha256.specs.Sha256.{compressed, rounds, schedule as words, sums};
+ghost use Rattle.sha256.specs.Sha256.{compressed, schedule as words, sums};
 
-use crate::constants;
+use crate::constants::TABLE;
 use crate::state::State;
-use crate::words::{big_sigma0, big_sigma1, choose, majority, small_sigma0, small_sigma1};
+use crate::words::{big_sigma, choose, majority, small_sigma};
+use std::array;
 
-// Round t, with the keyed schedule x.
-fn round(s: State, x: &[u32; 64], t: usize) -> State
-    requires { t < 64 }
-    ensures { result ≡ keyed_round x.now s t }
+// A round, with its entry of the keyed schedule.
+fn round(s: State, key: u32) -> State
+    ensures { result ≡ keyed_round s key }
 {
     let t1 = s
         .h
-        .wrapping_add(big_sigma1(s.e))
+        .wrapping_add(big_sigma::<6, 11, 25>(s.e))
         .wrapping_add(choose(s.e, s.f, s.g))
-        .wrapping_add(x[t]);
-    let t2 = big_sigma0(s.a).wrapping_add(majority(s.a, s.b, s.c));
+        .wrapping_add(key);
+    let t2 = big_sigma::<2, 13, 22>(s.a).wrapping_add(majority(s.a, s.b, s.c));
     State {
         a: t1.wrapping_add(t2),
         b: s.a,
@@ -30,19 +31,11 @@ fn round(s: State, x: &[u32; 64], t: usize) -> State
     }
 }
 
-// Eight rounds, from round t on.
-fn eight_rounds(s: State, x: &[u32; 64], t: usize) -> State
-    requires { t + 8 ≤ 64 }
-    ensures { result ≡ rounds (keyed_round x.now) s t 8 }
+// Eight rounds, which are written out in the program's code.
+fn eight_rounds(s: State, keys: &[u32; 8]) -> State
+    ensures { result ≡ fold keyed_round s keys.now }
 {
-    let s = round(s, x, t);
-    let s = round(s, x, t + 1);
-    let s = round(s, x, t + 2);
-    let s = round(s, x, t + 3);
-    let s = round(s, x, t + 4);
-    let s = round(s, x, t + 5);
-    let s = round(s, x, t + 6);
-    round(s, x, t + 7)
+    keys.iter().fold(s, |s, key| round(s, *key))
 }
 
 // The words of two states, added.
@@ -62,49 +55,35 @@ fn added(s: State, z: State) -> State
 }
 
 // The schedule of a block: its 16 words, and 48 made from them.
-fn schedule(block: &[u8]) -> [u32; 64]
-    requires { length block.now ≡ 64 }
+fn schedule(block: &[u8; 64]) -> [u32; 64]
     ensures { result ≡ words block.now 48 }
 {
+    let (given, _) = block.as_chunks::<4>();
     let mut w = [0; 64];
-    for t in 0..16 {
-        w[t] = u32::from_be_bytes([
-            block[4 * t],
-            block[4 * t + 1],
-            block[4 * t + 2],
-            block[4 * t + 3],
-        ]);
+    for (t, bytes) in given.iter().enumerate() {
+        w[t] = u32::from_be_bytes(*bytes);
     }
-    for j in 2..8 {
-        for t in 8 * j..8 * j + 8 {
-            w[t] = small_sigma1(w[t - 2])
-                .wrapping_add(w[t - 7])
-                .wrapping_add(small_sigma0(w[t - 15]))
-                .wrapping_add(w[t - 16]);
-        }
+    for t in 16..64 {
+        w[t] = small_sigma::<17, 19, 10>(w[t - 2])
+            .wrapping_add(w[t - 7])
+            .wrapping_add(small_sigma::<7, 18, 3>(w[t - 15]))
+            .wrapping_add(w[t - 16]);
     }
     w
 }
 
 // A schedule with each round's constant added.
-fn with_constants(mut w: [u32; 64]) -> [u32; 64]
-    ensures { result ≡ keyed w }
+fn with_constants(w: &[u32; 64]) -> [u32; 64]
+    ensures { result ≡ keyed w.now }
 {
-    for t in 0..64 {
-        w[t] = constants::of_round(t).wrapping_add(w[t]);
-    }
-    w
+    array::from_fn(|t| TABLE[t].wrapping_add(w[t]))
 }
 
 // The state after one block more.
-pub(crate) fn compress(state: State, block: &[u8]) -> State
-    requires { length block.now ≡ 64 }
+pub(crate) fn compress(state: State, block: &[u8; 64]) -> State
     ensures { result ≡ compressed state block.now }
 {
-    let x = with_constants(schedule(block));
-    let mut s = state;
-    for j in 0..8 {
-        s = eight_rounds(s, &x, 8 * j);
-    }
-    added(state, s)
+    let keys = with_constants(&schedule(block));
+    let (eights, _) = keys.as_chunks::<8>();
+    added(state, eights.iter().fold(state, eight_rounds))
 }

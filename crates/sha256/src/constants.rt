@@ -1,9 +1,10 @@
 // The constants of the rounds.
-ghost use Rattle.std.specs.Prelude.{◌≡◌, ◌<◌, slice_index};
+ghost use Rattle.std.specs.Prelude.{◌≡◌};
 ghost use Rattle.sha256.specs.Constants.{K, Rule};
 ghost use Rattle.std.specs.List.{slice_get};
 
-const TABLE: [u32; 64] = [
+// The constants of the 64 rounds.
+pub(crate) const TABLE: [u32; 64] = [
     0x428a2f98, 0x71374491, 0xb5c0fbcf, 0xe9b5dba5, 0x3956c25b, 0x59f111f1, 0x923f82a4, 0xab1c5ed5,
     0xd807aa98, 0x12835b01, 0x243185be, 0x550c7dc3, 0x72be5d74, 0x80deb1fe, 0x9bdc06a7, 0xc19bf174,
     0xe49b69c1, 0xefbe4786, 0x0fc19dc6, 0x240ca1cc, 0x2de92c6f, 0x4a7484aa, 0x5cb0a9dc, 0x76f988da,
@@ -14,22 +15,10 @@ const TABLE: [u32; 64] = [
     0x748f82ee, 0x78a5636f, 0x84c87814, 0x8cc70208, 0x90befffa, 0xa4506ceb, 0xbef9a3f7, 0xc67178f2,
 ];
 
-// The constant of round t.
-pub(crate) fn of_round(t: usize) -> u32
-    requires { t < 64 }
-    ensures { result ≡ slice_index K t }
-{
-    TABLE[t]
-}
-
 // The constant of round t, or none past the last round.
 pub fn constant(t: usize) -> Option<u32>
     ensures value { result ≡ slice_get K t }
     ensures rule { Rule }
 {
-    if t < TABLE.len() {
-        Some(of_round(t))
-    } else {
-        None
-    }
+    TABLE.get(t).copied()
 }

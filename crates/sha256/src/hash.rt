@@ -26,15 +26,12 @@ fn hashed(message: &[u8]) -> [u8; 32]
     requires { length message.now ≤ longest }
     ensures { result ≡ sha256_bytes message.now }
 {
-    let mut state = INITIAL;
-    for i in 0..message.len() / 64 {
-        state = compress(state, &message[i * 64..i * 64 + 64]);
-    }
+    let (whole, _) = message.as_chunks::<64>();
+    let state = whole.iter().fold(INITIAL, compress);
     let last = padding::tail(message);
-    for i in 0..padding::blocks(message.len()) {
-        state = compress(state, &last[i * 64..i * 64 + 64]);
-    }
-    output::bytes(state)
+    let (ends, _) = last.as_chunks::<64>();
+    let count = padding::blocks(message.len());
+    output::bytes(ends[..count].iter().fold(state, compress))
 }
 
 // SHA-256 as a hash, with the number 1.

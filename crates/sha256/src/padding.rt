@@ -21,7 +21,7 @@ fn marked(rest: &[u8]) -> [u8; 128]
     ensures { result ≡ rest.now ++ 0x80 ∷ replicate (127 - length rest.now) 0 }
 {
     let mut last = [0; 128];
-    last[0..rest.len()].copy_from_slice(rest);
+    last[..rest.len()].copy_from_slice(rest);
     last[rest.len()] = 0x80;
     last
 }
@@ -40,7 +40,7 @@ pub(crate) fn tail(message: &[u8]) -> [u8; 128]
     requires { length message.now ≤ longest }
     ensures { result ≡ ends message.now ++ replicate (128 - 64 * tail_blocks (length message.now)) 0 }
 {
+    let (_, rest) = message.as_chunks::<64>();
     let len = message.len();
-    let rest = &message[len / 64 * 64..len];
     sealed(marked(rest), 64 * blocks(len), 8 * len as u64)
 }

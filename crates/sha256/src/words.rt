@@ -1,6 +1,6 @@
 // The functions on words of 32 bits.
-ghost use Rattle.std.specs.Prelude.{◌≡◌};
-ghost use Rattle.sha256.specs.Words.{Ch, Maj, Σ0, Σ1, σ0, σ1};
+ghost use Rattle.std.specs.Prelude.{◌≡◌, ◌<◌, ◌≤◌};
+ghost use Rattle.sha256.specs.Words.{Ch, Maj, Σ, σ};
 
 pub(crate) fn choose(x: u32, y: u32, z: u32) -> u32
     ensures { result ≡ Ch x y z }
@@ -14,26 +14,20 @@ pub(crate) fn majority(x: u32, y: u32, z: u32) -> u32
     (x & y) ^ (x & z) ^ (y & z)
 }
 
-pub(crate) fn big_sigma0(x: u32) -> u32
-    ensures { result ≡ Σ0 x }
+pub(crate) fn big_sigma<const A: u32, const B: u32, const C: u32>(x: u32) -> u32
+    requires a { (0 < A) × (A < 32) }
+    requires b { (0 < B) × (B < 32) }
+    requires c { (0 < C) × (C < 32) }
+    ensures { result ≡ Σ A B C x }
 {
-    x.rotate_right(2) ^ x.rotate_right(13) ^ x.rotate_right(22)
+    x.rotate_right(A) ^ x.rotate_right(B) ^ x.rotate_right(C)
 }
 
-pub(crate) fn big_sigma1(x: u32) -> u32
-    ensures { result ≡ Σ1 x }
+pub(crate) fn small_sigma<const A: u32, const B: u32, const C: u32>(x: u32) -> u32
+    requires a { (0 < A) × (A < 32) }
+    requires b { (0 < B) × (B < 32) }
+    requires c { C < 32 }
+    ensures { result ≡ σ A B C x }
 {
-    x.rotate_right(6) ^ x.rotate_right(11) ^ x.rotate_right(25)
-}
-
-pub(crate) fn small_sigma0(x: u32) -> u32
-    ensures { result ≡ σ0 x }
-{
-    x.rotate_right(7) ^ x.rotate_right(18) ^ (x >> 3)
-}
-
-pub(crate) fn small_sigma1(x: u32) -> u32
-    ensures { result ≡ σ1 x }
-{
-    x.rotate_right(17) ^ x.rotate_right(19) ^ (x >> 10)
+    x.rotate_right(A) ^ x.rotate_right(B) ^ (x >> C)
 }

@@ -1,29 +1,26 @@
-use Rattle.std.proofs.Common.{◌≡◌, ℕ, ◌*◌, List, ap, ◌∙◌, arith}
-use Rattle.sha256.specs.declared.state.State.{State}
-use Rattle.sha256.specs.Keyed.{keyed_round}
-use Rattle.sha256.specs.Sha256.{compressed, round, rounds, schedule, sums}
-use Rattle.sha256.proofs.Keys.{keyed_rounds_are}
-use Rattle.sha256.proofs.Steps.{rounds_add}
+use Rattle.std.proofs.Common.{◌≡◌, List, ℕ, ◌/◌, length, rules, ap, ◌∙◌}
+use Rattle.std.specs.List.{fold}
+use Rattle.std.specs.Simd.{first_chunks}
+use Rattle.std.proofs.lemmas.Iterator.{YieldsList-from_slice}
+use Rattle.std.proofs.lemmas.Iterator.Consumers.{fold_from_yields_List}
+use Rattle.sha256.specs.Keyed.{keyed, keyed_round}
+use Rattle.sha256.specs.Sha256.{compressed, sums, round, rounds}
+use Rattle.sha256.proofs.Keys.{eights_are}
 use Rattle.sha256.proofs.compression.compress.Goals as goal
-
-pub loop-j-preserved : goal.loop-j-preserved
-loop-j-preserved c =
-    let step = keyed_round c.with_constants-x.result in
-    c.eight_rounds-s.ensures
-    ∙ ap (λ (z : State). rounds step z (8 * c.loop-j.j) 8) c.loop-j.invariant
-    ∙ rounds_add step c.args.state (8 * c.loop-j.j) 8
-    ∙ ap (rounds step c.args.state 0) (omega arith)
 
 pub returns : goal.returns
 unfolding compressed
 returns c =
-    let eight : 8 * c.loop-j.j ≡ 64 = omega arith in
-    let all : (X : List ℕ) → rounds (keyed_round X) c.args.state 0 (8 * c.loop-j.j) ≡ rounds (keyed_round X) c.args.state 0 64 =
-    λ X. ap (rounds (keyed_round X) c.args.state 0) eight in
-    let made : c.loop-j.s ≡ rounds (round (schedule c.args.block.now 48)) c.args.state 0 64 =
-    c.loop-j.invariant
-    ∙ all c.with_constants-x.result
-    ∙ ap (λ (X : List ℕ). rounds (keyed_round X) c.args.state 0 64) c.with_constants-x.ensures
-    ∙ keyed_rounds_are c.schedule.result c.args.state 64 (omega arith)
-    ∙ ap (λ (W : List ℕ). rounds (round W) c.args.state 0 64) c.schedule.ensures in
-    c.added.ensures ∙ ap (sums c.args.state) made
+    let s = c.args.state in
+    let W = c.schedule.result in
+    let X = c.with_constants-keys.result in
+    let eights = c.as_chunks.result.0.now in
+    let folded : c.fold.result ≡ fold (fold keyed_round) s eights =
+    fold_from_yields_List _ (fold keyed_round) s c.fold.result c.fold.ensures.ran (YieldsList-from_slice eights c.iter.ensures.rest) (λ a x b q k. search rules) in
+    let cut : eights ≡ first_chunks 8 (length X / 8) X = c.as_chunks.ensures.front in
+    c.added.ensures
+    ∙ ap (sums s)
+    (folded ∙ ap (fold (fold keyed_round) s) cut
+    ∙ ap (λ (Y : List ℕ). fold (fold keyed_round) s (first_chunks 8 (length Y / 8) Y)) c.with_constants-keys.ensures
+    ∙ eights_are W s
+    ∙ ap (λ (V : List ℕ). rounds (round V) s 0 64) c.schedule.ensures)

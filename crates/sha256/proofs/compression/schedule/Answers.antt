@@ -1,24 +1,25 @@
-use Rattle.std.proofs.Common.{◌≡◌, ◌*◌, ◌≤◌, length, sym, ap, ◌∙◌, arith, length-set}
+use Rattle.std.proofs.Common.{◌≡◌, ◌*◌, ◌≤◌, length, sym, ◌/◌, ap, ◌∙◌, arith, length-set}
 use Rattle.std.proofs.lemmas.List.{take_all}
 use Rattle.sha256.specs.Sha256.{schedule, next_word}
-use Rattle.sha256.proofs.Steps.{block_more, schedule_more}
+use Rattle.sha256.specs.Words.{σ0, σ1}
+use Rattle.sha256.proofs.Steps.{word_read, block_more, schedule_more}
 use Rattle.sha256.proofs.compression.schedule.Goals as goal
 
 pub loop-t-preserved : goal.loop-t-preserved
 loop-t-preserved c = (
   length-set c.loop-t.w c.loop-t.t c.from_be_bytes.result ∙ c.loop-t.invariant.0,
   block_more c.args.block.now c.loop-t.w c.loop-t.t c.from_be_bytes.result (omega arith) c.loop-t.invariant.1
-      c.from_be_bytes.ensures,
+      (c.from_be_bytes.ensures ∙ rw c.as_chunks.ensures.front (word_read c.args.block.now _ (length c.args.block.now / 4) c.loop-t.t (omega arith))),
 )
 
-pub loop-j-init : goal.loop-j-init
+pub loop-t-2-init : goal.loop-t-2-init
 unfolding schedule
-loop-j-init c =
+loop-t-2-init c =
     let all : c.loop-t.t ≡ 16 = omega arith in
     (c.loop-t.invariant.0, rw all at c.loop-t.invariant.1)
 
 pub loop-t-2-preserved : goal.loop-t-2-preserved
-unfolding next_word
+unfolding next_word σ0 σ1
 loop-t-2-preserved c = (
   length-set c.loop-t-2.w c.loop-t-2.t _ ∙ c.loop-t-2.invariant.0,
   schedule_more c.args.block.now c.loop-t-2.w c.loop-t-2.t _ (omega arith) (omega arith) c.loop-t-2.invariant.1 (cc),
@@ -26,5 +27,5 @@ loop-t-2-preserved c = (
 
 pub returns : goal.returns
 returns c =
-    let full : length c.loop-j.w ≤ 8 * c.loop-j.j = omega arith in
-    sym (take_all (8 * c.loop-j.j) c.loop-j.w full) ∙ c.loop-j.invariant.1 ∙ ap (schedule c.args.block.now) (omega arith)
+    let full : length c.loop-t-2.w ≤ c.loop-t-2.t = omega arith in
+    sym (take_all c.loop-t-2.t c.loop-t-2.w full) ∙ c.loop-t-2.invariant.1 ∙ ap (schedule c.args.block.now) (omega arith)

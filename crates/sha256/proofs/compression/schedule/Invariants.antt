@@ -1,4 +1,4 @@
-use Rattle.std.proofs.Common.{◌≡◌, ◌-◌, ◌*◌, map, length, take}
+use Rattle.std.proofs.Common.{◌≡◌, ◌-◌, map, length, take}
 use Rattle.std.specs.List.{range_with_len}
 use Rattle.sha256.specs.Words.{word}
 use Rattle.sha256.specs.Sha256.{schedule}
@@ -6,9 +6,6 @@ use Rattle.sha256.proofs.compression.schedule.Given as goal
 
 abbrev pub invariant-loop-t : goal.invariant-loop-t
 invariant-loop-t l = (length l.w ≡ 64) × (take l.t l.w ≡ map (word l.block) (range_with_len 0 l.t))
-
-abbrev pub invariant-loop-j : goal.invariant-loop-j
-invariant-loop-j l = (length l.w ≡ 64) × (take (8 * l.j) l.w ≡ schedule l.block (8 * l.j - 16))
 
 abbrev pub invariant-loop-t-2 : goal.invariant-loop-t-2
 invariant-loop-t-2 l = (length l.w ≡ 64) × (take l.t l.w ≡ schedule l.block (l.t - 16))

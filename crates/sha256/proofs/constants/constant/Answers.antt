@@ -1,15 +1,21 @@
-use Rattle.std.proofs.Common.{Some, sym, ap, ◌∙◌}
-use Rattle.std.proofs.lemmas.Option.{slice_get-get_or, slice_get_past}
+use Rattle.std.proofs.Common.{◌≡◌, ℕ, List, Option, Some, None, ◌∙◌, arith}
+use Rattle.std.specs.Borrow.{Bor}
+use Rattle.std.specs.List.{slice_get}
+use Rattle.std.specs.Option.{option_copied}
+use Rattle.std.specs.Slice.{IsItemAt}
+use Rattle.std.proofs.lemmas.Grind.{common_steps}
+use Rattle.std.proofs.lemmas.Option.{gets}
 use Rattle.sha256.specs.Constants.{K}
 use Rattle.sha256.proofs.Roots.{rule}
 use Rattle.sha256.proofs.constants.constant.Goals as goal
 
-pub returns-then-t-lt64 : goal.returns-then-t-lt64
-returns-then-t-lt64 c =
-    record {
-      value = ap Some c.of_round.ensures ∙ sym (slice_get-get_or K c.args.t 0 (rw rule.1 c.if-t-lt64.true));
-      rule = rule;
-    }
+copied_is : (xs : List ℕ) (i : ℕ) (r : Option (Bor ℕ)) → IsItemAt xs i r → option_copied r ≡ slice_get xs i
+copied_is xs i None h = grind (arith, common_steps, gets)
+copied_is xs i (Some x) h = grind (arith, common_steps, gets)
 
-pub returns-else-t-lt64 : goal.returns-else-t-lt64
-returns-else-t-lt64 c = record { value = sym (slice_get_past K c.args.t (rw rule.1 c.if-t-lt64.false)); rule = rule }
+pub returns-clause-value : goal.returns-clause-value
+unfolding K
+returns-clause-value c = c.copied.ensures ∙ copied_is K c.args.t c.get.result c.get.ensures.lookup
+
+pub returns-clause-rule : goal.returns-clause-rule
+returns-clause-rule c = rule

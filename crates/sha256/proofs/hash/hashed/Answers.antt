@@ -1,26 +1,26 @@
-use Rattle.std.proofs.Common.{◌≡◌, ◌+◌, ◌/◌, length, ap, ◌∙◌, arith}
-use Rattle.sha256.specs.Sha256.{padded, sha256_bytes, state_bytes}
-use Rattle.sha256.proofs.Absorbing.{after, block_count, whole_more, tail_more}
+use Rattle.std.proofs.Common.{◌≡◌, List, ℕ, ◌/◌, length, take, rules, ap, ◌∙◌, arith}
+use Rattle.std.specs.List.{fold}
+use Rattle.std.specs.Simd.{first_chunks}
+use Rattle.std.proofs.lemmas.Iterator.{YieldsList-from_slice}
+use Rattle.std.proofs.lemmas.Iterator.Consumers.{fold_from_yields_List}
+use Rattle.sha256.specs.declared.state.State.{State}
+use Rattle.sha256.specs.Sha256.{sha256_bytes, state_bytes, initial, compressed}
+use Rattle.sha256.proofs.Absorbing.{all_is}
 use Rattle.sha256.proofs.hash.hashed.Goals as goal
-
-pub loop-i-preserved : goal.loop-i-preserved
-loop-i-preserved c =
-    c.compress-state.ensures ∙ whole_more c.args.message.now c.loop-i.i c.loop-i.state (omega arith) c.loop-i.invariant
-
-pub loop-i-2-init : goal.loop-i-2-init
-loop-i-2-init c =
-    let all : c.loop-i.i ≡ length c.args.message.now / 64 + 0 = omega arith in
-    c.loop-i.invariant ∙ ap (after c.args.message.now) all
-
-pub loop-i-2-preserved : goal.loop-i-2-preserved
-loop-i-2-preserved c =
-    c.compress-state-in-loop-i-2.ensures
-    ∙ tail_more c.args.message.now c.tail-last.result c.loop-i-2.i c.loop-i-2.state (omega arith) c.tail-last.ensures
-    c.loop-i-2.invariant
 
 pub returns : goal.returns
 unfolding sha256_bytes
 returns c =
     let m = c.args.message.now in
-    let all : length m / 64 + c.loop-i-2.i ≡ length (padded m) / 64 = omega (arith, block_count m) in
-    c.bytes.ensures ∙ ap state_bytes (c.loop-i-2.invariant ∙ ap (after m) all)
+    let last = c.tail-last.result in
+    let b = c.blocks-count.result in
+    let state = c.fold-state.result in
+    let whole : state ≡ fold compressed initial c.as_chunks.result.0.now =
+    fold_from_yields_List _ compressed initial state c.fold-state.ensures.ran (YieldsList-from_slice c.as_chunks.result.0.now c.iter.ensures.rest) (λ a x b q k. search rules) in
+    let ends : c.fold.result ≡ fold compressed state (take b c.as_chunks-2.result.0.now) =
+    fold_from_yields_List _ compressed state c.fold.result c.fold.ensures.ran (YieldsList-from_slice (take b c.as_chunks-2.result.0.now) c.iter-2.ensures.rest) (λ a x b q k. search rules) in
+    c.bytes.ensures
+    ∙ ap state_bytes
+    (ends ∙ ap (λ (l : List (List ℕ)). fold compressed state (take b l)) c.as_chunks-2.ensures.front
+    ∙ ap (λ (z : State). fold compressed z (take b (first_chunks 64 (length last / 64) last))) (whole ∙ ap (fold compressed initial) c.as_chunks.ensures.front)
+    ∙ all_is m last b (length last / 64) c.blocks-count.ensures.count (omega arith) c.tail-last.ensures)
