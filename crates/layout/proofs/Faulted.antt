@@ -1,7 +1,6 @@
 -- The tests of a reader, gone through in their order.
-use Rattle.std.proofs.Common.{◌≡◌, ℕ, ◌-◌, ◌^◌, ◌<◌, ◌≤◌, true, false, not, eqb, ltb, leb, List, [], ◌∷◌, length, get_or, take, drop, Some, None, Option, ap, ◌∙◌, inl, inr}
+use Rattle.std.proofs.Common.{◌≡◌, ℕ, ◌^◌, ◌<◌, ◌≤◌, true, false, not, eqb, ltb, leb, List, [], ◌∷◌, length, get_or, Some, None, Option, ap, ◌∙◌, inl, inr}
 use Rattle.std.specs.Option.{option_map}
-use Rattle.std.proofs.lemmas.List.{take_rest, get_or-drop}
 use Rattle.std.proofs.lemmas.Bool.{cases_Bool, and_parts, and_from, eqb-true, eq-eqb, ne_eqb, lt-ltb, le-ltb, le-leb, lt-leb}
 use Rattle.wire.specs.Bytes.{pair_at, number_at}
 use Rattle.wire.specs.Faults.{when, first}
@@ -11,7 +10,7 @@ use Rattle.layout.specs.declared.fault.Fault.TheVariants.{Short, Mark, Version, 
 use Rattle.layout.specs.Faults.{marked, length_told, bad_side, tests_behind, token_fault, Headed}
 use Rattle.layout.specs.Parts.{round_count, calendar_count, links_in}
 
-pub marked_by : (bytes : List ℕ) → get_or bytes 0 0 ≡ 72 → get_or bytes 1 0 ≡ 67 → get_or bytes 2 0 ≡ 84 → marked bytes ≡ true
+marked_by : (bytes : List ℕ) → get_or bytes 0 0 ≡ 72 → get_or bytes 1 0 ≡ 67 → get_or bytes 2 0 ≡ 84 → marked bytes ≡ true
 marked_by bytes h c t = and_from _ _ (eq-eqb _ _ h) (and_from _ _ (eq-eqb _ _ c) (eq-eqb _ _ t))
 
 pub unmarked : (bytes : List ℕ) → (get_or bytes 0 0 ≡ 72 → get_or bytes 1 0 ≡ 67 → get_or bytes 2 0 ≡ 84 → ⊥) → marked bytes ≡ false
@@ -23,10 +22,6 @@ unmarked bytes no-mark =
           absurd (no-mark (eqb-true _ _ parts.0) (eqb-true _ _ rest.0) (eqb-true _ _ rest.1))
       | inr e ↦ e
     ]
-
--- the first byte behind mark and version
-pub rest_first : (bytes : List ℕ) → get_or (take (length bytes - 5) (drop 5 bytes)) 0 0 ≡ get_or bytes 5 0
-rest_first bytes = ap (λ xs. get_or xs 0 0) (take_rest bytes 5) ∙ get_or-drop 5 bytes 0 0
 
 module _ (number : ℕ) (bytes : List ℕ) where
   -- the tests that are left, from the last one on
@@ -60,9 +55,9 @@ module _ (number : ℕ) (bytes : List ℕ) where
     pub at_mark : marked bytes ≡ false → token_fault number bytes ≡ Some Mark
     at_mark e = past_short ∙ stopped versions (not (marked bytes)) _ (ap not e)
 
-    module _ (mark : marked bytes ≡ true) where
+    module _ (h : get_or bytes 0 0 ≡ 72) (c : get_or bytes 1 0 ≡ 67) (t : get_or bytes 2 0 ≡ 84) where
       past_mark : token_fault number bytes ≡ first versions
-      past_mark = past_short ∙ passed versions (not (marked bytes)) _ (ap not mark)
+      past_mark = past_short ∙ passed versions (not (marked bytes)) _ (ap not (marked_by bytes h c t))
 
       pub at_version : (pair_at bytes 3 ≡ 1 → ⊥) → token_fault number bytes ≡ Some Version
       at_version ne = past_mark ∙ stopped hashes (not (eqb (pair_at bytes 3) 1)) _ (ap not (ne_eqb _ _ ne))
@@ -131,3 +126,6 @@ module _ (number : ℕ) (bytes : List ℕ) where
 
         pub past_all : number_at bytes 38 ≤ number_at bytes 42 → token_fault number bytes ≡ None
         past_all h = past_publication ∙ passed [] _ _ (le-ltb (number_at bytes 42) (number_at bytes 38) h)
+
+-- the tests of the head
+pub ruleset head_tests = (at_short, at_mark, at_version, at_hash, at_round, at_calendar, at_length, past_length)

@@ -1,6 +1,7 @@
 pub mod Clean
 pub mod Exact
 pub mod Faulted
+pub mod Behind
 pub mod LinkBytes
 pub mod Links
 pub mod Longest

@@ -13,7 +13,7 @@ use Rattle.layout.specs.Faults.{bad_side, token_fault, Headed}
 use Rattle.wire.specs.Faults.{unless}
 use Rattle.layout.specs.Laws.{WrittenLaw}
 use Rattle.layout.specs.Parts.{round_count, calendar_count, links_in, link_of, parts_of, content}
-use Rattle.layout.proofs.Faulted.{marked_by, past_length, past_all}
+use Rattle.layout.proofs.Faulted.{past_length, past_all}
 use Rattle.layout.proofs.Links.{length_links}
 use Rattle.layout.proofs.LinkBytes.{joined_append, chunked_links, links_read, sides_good}
 
@@ -22,6 +22,10 @@ same_content : {d₁ d₂ : Digest} {s₁ s₂ p₁ p₂ : ℕ} {a₁ a₂ c₁ 
     → ◌≡◌ {A = Content} (record { recorded = d₁; second = s₁; publication = p₁; round = a₁; calendar = c₁ })
     (record { recorded = d₂; second = s₂; publication = p₂; round = a₂; calendar = c₂ })
 same_content d s p a c = cc
+
+-- links in their bytes read as they were
+read_of : {raws : List (List ℕ)} {links : List (Link Digest)} → raws ≡ map link_bytes links → map link_of raws ≡ links
+read_of e = ap (map link_of) e ∙ links_read _
 
 module _ (number : ℕ) (t : Content) where
   -- the token's bytes up to the second, the publication, the counts, and the links
@@ -96,18 +100,14 @@ module _ (number : ℕ) (t : Content) where
   round_read : map link_of (take (round_count (layout number t)) (links_in (layout number t))) ≡ t.round
   round_read =
       let n : ℕ = length t.round in
-      ap (map link_of)
-      (ap₂ (λ k xs. take k xs) round_is links_are
+      read_of (ap₂ (λ k xs. take k xs) round_is links_are
       ∙ (take-map link_bytes n (t.round ++ t.calendar) ∙ ap (map link_bytes) (take_at t.round t.calendar n refl)))
-      ∙ links_read t.round
 
   calendar_read : map link_of (drop (round_count (layout number t)) (links_in (layout number t))) ≡ t.calendar
   calendar_read =
       let n : ℕ = length t.round in
-      ap (map link_of)
-      (ap₂ (λ k xs. drop k xs) round_is links_are
+      read_of (ap₂ (λ k xs. drop k xs) round_is links_are
       ∙ (drop-map link_bytes n (t.round ++ t.calendar) ∙ ap (map link_bytes) (drop_at t.round t.calendar n refl)))
-      ∙ links_read t.calendar
 
   recorded_read : digest_of (take 32 (drop 6 (layout number t))) ≡ t.recorded
   recorded_read =
@@ -130,7 +130,7 @@ module _ (number : ℕ) (t : Content) where
     headed : Headed number (layout number t)
     unfolding layout
     headed =
-        past_length number (layout number t) (omega (arith, length_layout)) (marked_by (layout number t) refl refl refl) refl refl
+        past_length number (layout number t) (omega (arith, length_layout)) refl refl refl refl refl
         (omega (arith, round_is, w.round_short)) (omega (arith, calendar_is, w.calendar_short))
         (length_layout ∙ omega (arith, round_is, calendar_is))
 

@@ -6,6 +6,7 @@ ghost use Rattle.layout.specs.Laws.{LongestLaw, TokenLaw};
 use crate::fault::Fault;
 use crate::sizes::{HEAD, LINK, MOST_CALENDAR, MOST_ROUND, PUBLICATIONS};
 use digest::Hash;
+use wire::number_at;
 
 const VERSION: u16 = 1;
 
@@ -17,28 +18,25 @@ fn bad_side(links: &[[u8; 33]]) -> Option<usize>
     requires { length links.now ≤ 95 }
     ensures { result ≡ bad_side 48 links.now }
 {
-    for (k, link) in links.iter().enumerate() {
-        if link[0] > LAST_SIDE {
-            return Some(HEAD + LINK * k);
-        }
-    }
-    None
+    let place = links.iter().position(|link| link[0] > LAST_SIDE)?;
+    Some(HEAD + LINK * place)
 }
 
 // The tests of a token's head: its length, mark, version, hash, and the two counts.
+#[tactic(auto, using(crate::proofs::Faulted::head_tests))]
 fn head<H: Hash>(bytes: &[u8]) -> Result<(), Fault>
     ensures { MatchResult result (λ _. Headed H.Hash.numbered bytes.now) (λ fault. token_fault H.Hash.numbered bytes.now ≡ Some fault) }
 {
     if bytes.len() < HEAD {
         return Err(Fault::Short(bytes.len()));
     }
-    let [b'H', b'C', b'T', high, low, rest @ ..] = bytes else {
+    let [b'H', b'C', b'T', high, low, number, ..] = bytes else {
         return Err(Fault::Mark);
     };
     if u16::from_be_bytes([*high, *low]) != VERSION {
         return Err(Fault::Version);
     }
-    if rest[0] != H::code() {
+    if *number != H::code() {
         return Err(Fault::Hash);
     }
     let round = bytes[46] as usize;
@@ -56,6 +54,7 @@ fn head<H: Hash>(bytes: &[u8]) -> Result<(), Fault>
 }
 
 // The first fault of bytes that are read for a hash; a token has none.
+#[tactic(auto, using(crate::proofs::Behind::few))]
 pub fn check<H: Hash>(bytes: &[u8]) -> Result<(), Fault>
     ensures answer { result ≡ check_answer H.Hash.numbered bytes.now }
     ensures exact { TokenLaw }
@@ -66,11 +65,11 @@ pub fn check<H: Hash>(bytes: &[u8]) -> Result<(), Fault>
     if let Some(place) = bad_side(links) {
         return Err(Fault::Side(place));
     }
-    let publication = u32::from_be_bytes([bytes[42], bytes[43], bytes[44], bytes[45]]);
+    let publication = number_at(bytes, 42).unwrap();
     if publication >= PUBLICATIONS {
         return Err(Fault::Publication);
     }
-    let second = u32::from_be_bytes([bytes[38], bytes[39], bytes[40], bytes[41]]);
+    let second = number_at(bytes, 38).unwrap();
     if second > publication {
         return Err(Fault::Second);
     }

@@ -5,7 +5,7 @@ ghost use Rattle.layout.specs.Faults.{fault_report};
 use wire::{Layer, Report};
 
 // The two lengths are those that were given; the place is that of the first bad side.
-#[derive(Clone, Copy)]
+#[derive(Clone, Copy, Debug, PartialEq, Eq)]
 pub enum Fault {
     Short(usize),
     Mark,
@@ -19,12 +19,14 @@ pub enum Fault {
     Second,
 }
 
-impl Fault {
+impl From<Fault> for Report {
+    ghost from_gives = { λ fault report. report ≡ fault_report fault };
+
     // The fault's number, its layer and its place.
-    pub fn report(self) -> Report
-        ensures { result ≡ fault_report self }
+    fn from(fault: Fault) -> Report
+        ensures { result ≡ fault_report fault }
     {
-        let (number, place) = match self {
+        let (number, place) = match fault {
             Fault::Short(length) => (60, length),
             Fault::Mark => (61, 0),
             Fault::Version => (62, 3),

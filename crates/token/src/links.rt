@@ -1,4 +1,4 @@
-// Links of a token as records.
+// Links of a token as records. These are functions: a `From` must stand in the crate of one of its types.
 ghost use Rattle.std.specs.Prelude.{◌≡◌, min, map, length, take};
 ghost use Rattle.tree.specs.Answers.{over};
 ghost use Rattle.layout.specs.Parts.{side_of, link_of};
@@ -17,22 +17,22 @@ fn side(number: u8) -> Side
 fn link(raw: &[u8; 33]) -> Link<Digest>
     ensures { result ≡ link_of raw.now }
 {
-    let mut sibling = [0; 32];
-    sibling.copy_from_slice(&raw[1..33]);
+    let sibling = raw[1..].first_chunk().unwrap();
     Link {
         side: side(raw[0]),
-        sibling: Digest::of(sibling),
+        sibling: Digest::of(*sibling),
     }
 }
 
 // Writes the links at the front of `out`, as many as it has room for, and answers how many that is.
-pub(crate) fn fill(raw: &[[u8; 33]], out: &mut [Link<Digest>]) -> usize
-    ensures count { result ≡ min (length raw.now) (length out.old) }
-    ensures links { out.new ≡ over (map link_of (take result raw.now)) out.old }
+pub(crate) fn fill(raws: &[[u8; 33]], out: &mut [Link<Digest>]) -> usize
+    ensures count { result ≡ min (length raws.now) (length out.old) }
+    ensures links { out.new ≡ over (take result (map link_of raws.now)) out.old }
 {
-    let count = raw.len().min(out.len());
-    for k in 0..count {
-        out[k] = link(&raw[k]);
+    // Not `iter_mut().zip(..)`: behind it no clause tells what was written.
+    let count = raws.len().min(out.len());
+    for (k, raw) in raws[..count].iter().enumerate() {
+        out[k] = link(raw);
     }
     count
 }

@@ -1,6 +1,5 @@
 // Bytes read as a token.
-ghost use Rattle.std.specs.Prelude.{◌≡◌, ◌+◌, ◌≤◌, length, IfOk};
-ghost use Rattle.wire.specs.Bytes.{number_at};
+ghost use Rattle.std.specs.Prelude.{◌≡◌, ◌≤◌, length, IfOk};
 ghost use Rattle.layout.specs.Content.{layout};
 ghost use Rattle.layout.specs.Faults.{length_told, read_answer};
 ghost use Rattle.layout.specs.Parts.{content, parts_of};
@@ -9,30 +8,21 @@ ghost use Rattle.token.specs.Held.{held, told};
 use crate::token::Token;
 use digest::Hash;
 use layout::{Fault, HEAD, check};
-
-// The number in the four bytes from a place on.
-fn number(bytes: &[u8], at: usize) -> u32
-    requires { at + 4 ≤ length bytes.now }
-    ensures { result ≡ number_at bytes.now at }
-{
-    u32::from_be_bytes([bytes[at], bytes[at + 1], bytes[at + 2], bytes[at + 3]])
-}
+use wire::number_at;
 
 // The parts of bytes that have the length their counts ask for.
 fn parted(bytes: &[u8]) -> Token<'_>
     requires { (48 ≤ length bytes.now) × (length bytes.now ≡ length_told bytes.now) }
     ensures { held result ≡ parts_of bytes.now }
 {
-    let Some(recorded) = bytes[6..].first_chunk::<32>() else {
-        unreachable()
-    };
+    let recorded = bytes[6..].first_chunk().unwrap();
     let (links, _) = bytes[HEAD..].as_chunks::<33>();
     let (round, calendar) = links.split_at(bytes[46] as usize);
     Token {
         bytes,
         recorded,
-        second: number(bytes, 38),
-        publication: number(bytes, 42),
+        second: number_at(bytes, 38).unwrap(),
+        publication: number_at(bytes, 42).unwrap(),
         round,
         calendar,
     }

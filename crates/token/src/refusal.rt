@@ -2,13 +2,13 @@
 ghost use Rattle.std.specs.Prelude.{◌≡◌};
 ghost use Rattle.token.specs.Copied.{write_number};
 
-#[derive(Clone, Copy)]
+#[derive(Clone, Copy, Debug, PartialEq, Eq)]
 pub enum WriteRefusal {
-    RoundCount,
-    CalendarCount,
-    Publication,
-    Second,
-    Short,
+    RoundCount = 64,
+    CalendarCount = 65,
+    Publication = 68,
+    Second = 69,
+    Short = 44,
 }
 
 impl WriteRefusal {
@@ -16,12 +16,6 @@ impl WriteRefusal {
     pub fn number(self) -> u8
         ensures { result ≡ write_number self }
     {
-        match self {
-            WriteRefusal::RoundCount => 64,
-            WriteRefusal::CalendarCount => 65,
-            WriteRefusal::Publication => 68,
-            WriteRefusal::Second => 69,
-            WriteRefusal::Short => 44,
-        }
+        self as u8
     }
 }

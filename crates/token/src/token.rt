@@ -11,6 +11,7 @@ use crate::refusal::WriteRefusal;
 use digest::Digest;
 use tree::Link;
 
+// Clauses see it by `held`: a type with a lifetime that is `Copy` can have no model.
 #[derive(Clone, Copy)]
 pub struct Token<'a> {
     pub(crate) bytes: &'a [u8],
@@ -95,7 +96,7 @@ impl<'a> Token<'a> {
         if out.len() < length {
             return Err(WriteRefusal::Short);
         }
-        out[0..length].copy_from_slice(self.bytes);
+        out[..length].copy_from_slice(self.bytes);
         Ok(length)
     }
 }

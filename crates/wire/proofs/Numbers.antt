@@ -1,9 +1,10 @@
 -- Numbers in two and four bytes: written and read again, and read and written again.
-use Rattle.std.proofs.Common.{◌≡◌, ℕ, ◌+◌, ◌*◌, ◌/◌, ◌%◌, ◌^◌, ◌<◌, ◌≤◌, List, [], ◌∷◌, ◌++◌, length, get_or, take, drop, sym, ap, ◌∙◌, ap₂, mod-eq_of_lt, div-add-mod', arith}
+use Rattle.std.proofs.Common.{◌≡◌, ℕ, ◌+◌, ◌*◌, ◌/◌, ◌%◌, ◌^◌, ◌<◌, ◌≤◌, leb, List, [], ◌∷◌, ◌++◌, length, get_or, take, drop, Some, None, Option, sym, ap, ◌∙◌, ap₂, mod-eq_of_lt, div-add-mod', inl, inr, arith}
 use native.Mathlib.Nat.{div-div-eq-div-mul}
 use Rattle.std.proofs.lemmas.List.{drop_more, get_or-append-add}
+use Rattle.std.proofs.lemmas.Bool.{cases_Bool, cond-true, cond-false}
 use Rattle.digest.specs.Messages.{two_bytes, four_bytes}
-use Rattle.wire.specs.Bytes.{Bytes, pair_at, number_at}
+use Rattle.wire.specs.Bytes.{Bytes, pair_at, number_at, number_told}
 
 -- the four digits of a number to the base 256
 sum : (a b c n p q r s : ℕ) → a * 256 + r ≡ n → b * 256 + p ≡ a → c * 256 + q ≡ b → s ≡ c → s * 16777216 + q * 65536 + p * 256 + r ≡ n
@@ -67,3 +68,19 @@ number_written xs place fits h =
     ap₂ (λ a b. a ∷ b ∷ number_at xs place / 256 % 256 ∷ number_at xs place % 256 ∷ []) (omega arith) (omega arith)
     ∙ (ap₂ (λ a b. get_or xs place 0 ∷ get_or xs (place + 1) 0 ∷ a ∷ b ∷ []) (omega arith) (omega arith)
     ∙ sym (ap (take 4) (two_items xs place (omega arith) ∙ ap (λ ys. get_or xs place 0 ∷ get_or xs (place + 1) 0 ∷ ys) rest)))
+
+some_same : {m n : ℕ} → Some m ≡ Some n → m ≡ n
+some_same e = cc
+
+-- a number that is told is the one that stands there
+pub told_is : (xs : List ℕ) (place : ℕ) {n : ℕ} {told : Option ℕ} → told ≡ number_told xs place → told ≡ Some n → n ≡ number_at xs place
+told_is xs place {n} e is =
+    elim (cases_Bool (leb (place + 4) (length xs))) [
+      | inl room ↦
+          let found : number_told xs place ≡ Some (number_at xs place) = cond-true _ _ _ room in
+          some_same (sym is ∙ e ∙ found)
+      | inr short ↦
+          let none : number_told xs place ≡ None = cond-false _ _ _ short in
+          let never : Some n ≡ None = sym is ∙ e ∙ none in
+          let z : ◌≡◌ {A = ℕ} 0 1 = cc in absurd (omega arith)
+    ]

@@ -1,5 +1,5 @@
 -- Numbers and digests as they stand in files: a number with its highest byte first, a digest as its 32 bytes.
-use Rattle.std.specs.Prelude.{◌≡◌, ℕ, zero, suc, ◌+◌, ◌*◌, ◌%◌, ◌<◌, List, [], ◌∷◌, length, drop, slice_index, refl}
+use Rattle.std.specs.Prelude.{◌≡◌, ℕ, zero, suc, ◌+◌, ◌*◌, ◌%◌, ◌<◌, cond, List, [], ◌∷◌, length, drop, Some, None, Option, nat_le, slice_index, refl}
 use Rattle.std.proofs.Common.{ap, arith}
 use Rattle.digest.specs.declared.value.Digest.{Digest}
 
@@ -15,6 +15,10 @@ pair_at xs place = slice_index xs place * 256 + slice_index xs (place + 1)
 abbrev pub number_at : List ℕ → ℕ → ℕ
 number_at xs place =
     slice_index xs place * 16777216 + slice_index xs (place + 1) * 65536 + slice_index xs (place + 2) * 256 + slice_index xs (place + 3)
+
+-- that number, or none where the list has fewer bytes behind the place
+abbrev pub number_told : List ℕ → ℕ → Option ℕ
+number_told xs place = cond (nat_le (place + 4) (length xs)) (Some (number_at xs place)) None
 
 -- the first n items of a list as bytes: each modulo 256, and 0 past the list's end
 abbrev pub front_bytes : ℕ → List ℕ → List ℕ

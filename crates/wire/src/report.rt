@@ -1,7 +1,7 @@
 // How a fault is told.
 
 // Where a fault lies: in the bytes, in a path, or in a list of roots.
-#[derive(Clone, Copy)]
+#[derive(Clone, Copy, Debug, PartialEq, Eq)]
 pub enum Layer {
     Reader,
     Path,
@@ -9,7 +9,7 @@ pub enum Layer {
 }
 
 // A fault by its number in the rule book, its layer, and the place of the byte that it is about.
-#[derive(Clone, Copy)]
+#[derive(Clone, Copy, Debug, PartialEq, Eq)]
 pub struct Report {
     pub number: u8,
     pub layer: Layer,

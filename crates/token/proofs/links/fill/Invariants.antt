@@ -5,4 +5,4 @@ use Rattle.token.proofs.links.fill.Given as goal
 
 -- the first links are written
 abbrev pub invariant-loop-k : goal.invariant-loop-k
-invariant-loop-k l = l.out ≡ over (map link_of (take l.k l.raw)) l.initial.out
+invariant-loop-k l = l.out ≡ over (map link_of (take l.k (take l.count l.raws))) l.initial.out

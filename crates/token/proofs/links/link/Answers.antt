@@ -1,9 +1,12 @@
-use Rattle.std.proofs.Common.{drop, sym, ◌∙◌, ap₂}
+use Rattle.std.proofs.Common.{◌≡◌, List, ℕ, take, drop, sym, ◌∙◌, ap₂, take-take, arith}
 use Rattle.digest.specs.declared.value.Digest.{Digest}
 use Rattle.tree.specs.declared.link.Side.{Side}
 use Rattle.tree.specs.declared.link.Link.{Link}
 use Rattle.wire.proofs.Digests.{digest_is}
 use Rattle.token.proofs.links.link.Goals as goal
+
+same_front : (ys : List ℕ) → take 32 (take 32 ys) ≡ take 32 ys
+same_front ys = take-take 32 32 ys (omega arith)
 
 made : (s : Side) (d : Digest) → Link Digest
 made s d = record { side = s; sibling = d }
@@ -11,4 +14,6 @@ made s d = record { side = s; sibling = d }
 pub returns : goal.returns
 unfolding made
 returns c =
-    ap₂ made c.side.ensures (sym (digest_is c.of.result (drop 1 c.args.raw.now) (c.of.ensures ∙ c.copy_from_slice.ensures.after)))
+    let raw : List ℕ = c.args.raw.now in
+    let first = rw c.unwrap-sibling.ensures at c.first_chunk.ensures.cases in
+    ap₂ made c.side.ensures (sym (digest_is c.of.result (drop 1 raw) (c.of.ensures ∙ first.same ∙ same_front (drop 1 raw))))

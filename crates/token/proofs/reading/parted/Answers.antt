@@ -1,5 +1,6 @@
 use Rattle.std.proofs.Common.{◌≡◌, ℕ, List, take, drop, ap, ◌∙◌}
 use Rattle.std.proofs.lemmas.List.{take_rest}
+use Rattle.wire.proofs.Numbers.{told_is}
 use Rattle.layout.specs.Parts.{Parts, links_in, round_count}
 use Rattle.layout.proofs.Links.{links_are}
 use Rattle.token.proofs.reading.parted.Goals as goal
@@ -15,9 +16,10 @@ returns c =
     let bytes : List ℕ = c.args.bytes.now in
     let links : c.as_chunks.result.0.now ≡ links_in bytes =
     c.as_chunks.ensures.front ∙ links_are bytes _ c.requires.0 c.requires.1 (take_rest bytes 48) in
+    let first = rw c.unwrap-recorded.ensures at c.first_chunk.ensures.cases in
     made bytes
-    (c.in-Some.ensures.cases.same ∙ ap (take 32) (take_rest bytes 6))
-    c.number.ensures
-    c.number-2.ensures
+    (first.same ∙ ap (take 32) (take_rest bytes 6))
+    (told_is bytes 38 c.number_at.ensures c.unwrap.ensures)
+    (told_is bytes 42 c.number_at-2.ensures c.unwrap-2.ensures)
     (c.split_at.ensures.front ∙ ap (take (round_count bytes)) links)
     (c.split_at.ensures.back ∙ ap (drop (round_count bytes)) links)
