@@ -34,7 +34,7 @@ impl<'a, D: Hash> Head<'a, D> {
 }
 
 // What a list of at most one digest adds to the row: the digest as it is, or that of an empty second.
-fn entered<D: Hash>(_hash: PhantomData<D>, list: &[Digest]) -> Digest
+fn entered<D: Hash>(list: &[Digest]) -> Digest
     ensures { result ≡ head_digest D.Hash.digested list.now }
 {
     match list {
@@ -57,7 +57,7 @@ impl<D: Hash> Pile for Head<'_, D> {
         if self.records.full() {
             return Err(CommitRefusal::Full);
         }
-        let digest = entered(self.hash, list);
+        let digest = entered::<D>(list);
         self.records.enter(digest, !list.is_empty());
         Ok(())
     }
@@ -70,20 +70,16 @@ impl<D: Hash> Pile for Head<'_, D> {
         self.records.at(second)
     }
 
+    #[tactic(auto, using(crate::proofs::Heads::no_way))]
     fn way_length(&self, place: usize) -> Option<u8> {
-        if place < self.records.places() {
-            Some(0)
-        } else {
-            None
-        }
+        (place < self.records.round().len()).then_some(0)
     }
 
+    #[tactic(auto, using(crate::proofs::Heads::no_way))]
     fn way(&self, place: usize, _links: &mut [Link<Digest>]) -> Result<usize, WayRefusal> {
-        if place < self.records.places() {
-            Ok(0)
-        } else {
-            Err(WayRefusal::Absent)
-        }
+        (place < self.records.round().len())
+            .then_some(0)
+            .ok_or(WayRefusal::Absent)
     }
 
     fn most(&self) -> usize {
@@ -94,6 +90,7 @@ impl<D: Hash> Pile for Head<'_, D> {
         self.records.room()
     }
 
+    #[tactic(auto, using(crate::proofs::Heads::short))]
     fn deepest(&self) -> u8 {
         DEEPEST
     }

@@ -2,10 +2,10 @@
 ghost use Rattle.std.specs.Prelude.{◌≡◌};
 ghost use Rattle.pile.specs.Answers.{commit_number, way_number};
 
-#[derive(Clone, Copy)]
+#[derive(Clone, Copy, Debug, PartialEq, Eq)]
 pub enum CommitRefusal {
-    TooMany,
-    Full,
+    TooMany = 11,
+    Full = 12,
 }
 
 impl CommitRefusal {
@@ -13,17 +13,14 @@ impl CommitRefusal {
     pub fn number(self) -> u8
         ensures { result ≡ commit_number self }
     {
-        match self {
-            CommitRefusal::TooMany => 11,
-            CommitRefusal::Full => 12,
-        }
+        self as u8
     }
 }
 
-#[derive(Clone, Copy)]
+#[derive(Clone, Copy, Debug, PartialEq, Eq)]
 pub enum WayRefusal {
-    Absent,
-    Short,
+    Absent = 13,
+    Short = 14,
 }
 
 impl WayRefusal {
@@ -31,9 +28,6 @@ impl WayRefusal {
     pub fn number(self) -> u8
         ensures { result ≡ way_number self }
     {
-        match self {
-            WayRefusal::Absent => 13,
-            WayRefusal::Short => 14,
-        }
+        self as u8
     }
 }

@@ -2,12 +2,14 @@
 // The expected output comes from outside: tools/expected_tree_vectors.py computes it from the rules with python3's hashlib.
 #![tactic(auto)]
 
-use anyhow::anyhow;
+use anyhow::Context;
 use calendar::{Slice, calendar_path, calendar_root};
 use digest::{Digest, Hash};
 use sha3::Sha3;
 use sha256::Sha256;
 use std::alloc::{AllocError, Global};
+use std::array;
+use std::marker::PhantomData;
 use tree::{
     CalendarNodes, Joining, Link, PathRefusal, RoundNodes, Side, follow, path, root, sides,
 };
@@ -29,132 +31,145 @@ const LARGE: [(u32, u32); 11] = [
     (5, 6),
 ];
 
+// A kind of tree, under a hash.
+trait Tree {
+    type Digester: Hash;
+
+    type Nodes: Joining<Node = Digest>;
+
+    // The root over the nodes.
+    fn root(nodes: &[Digest]) -> Option<Digest>;
+
+    // Writes the path of a place, and answers its length.
+    fn path(nodes: &[Digest], place: u32, links: &mut [Link<Digest>]) -> Result<usize, PathRefusal>;
+}
+
+// A round's tree: from the slice at once.
+struct Rounds<H> {
+    hash: PhantomData<H>,
+}
+
+impl<H: Hash> Tree for Rounds<H> {
+    type Digester = H;
+
+    type Nodes = RoundNodes<H>;
+
+    fn root(nodes: &[Digest]) -> Option<Digest> {
+        root::<RoundNodes<H>>(nodes)
+    }
+
+    fn path(
+        nodes: &[Digest],
+        place: u32,
+        links: &mut [Link<Digest>],
+    ) -> Result<usize, PathRefusal> {
+        path::<RoundNodes<H>>(nodes, place as usize, links)
+    }
+}
+
+// The second of a calendar's last node.
+fn last(nodes: &[Digest]) -> Option<u32> {
+    u32::try_from(nodes.len()).ok()?.checked_sub(1)
+}
+
+// A calendar's tree: its nodes are read one by one.
+struct Calendars<H> {
+    hash: PhantomData<H>,
+}
+
+impl<H: Hash> Tree for Calendars<H> {
+    type Digester = H;
+
+    type Nodes = CalendarNodes<H>;
+
+    fn root(nodes: &[Digest]) -> Option<Digest> {
+        calendar_root::<CalendarNodes<H>, Slice<Digest>>(&Slice::new(nodes), last(nodes)?)
+    }
+
+    fn path(
+        nodes: &[Digest],
+        place: u32,
+        links: &mut [Link<Digest>],
+    ) -> Result<usize, PathRefusal> {
+        let publication = last(nodes).ok_or(PathRefusal::Absent)?;
+        calendar_path::<CalendarNodes<H>, Slice<Digest>>(
+            &Slice::new(nodes),
+            publication,
+            place,
+            links,
+        )
+    }
+}
+
 // Node i: bytes that count up from 3 * i.
 fn node(i: u32) -> Digest {
-    let mut bytes = [0u8; 32];
-    let mut byte = (i.wrapping_mul(3) & 0xff) as u8;
-    for place in bytes.iter_mut() {
-        *place = byte;
-        byte = byte.wrapping_add(1);
-    }
-    Digest::of(bytes)
+    let first = (i.wrapping_mul(3) & 0xff) as u8;
+    Digest::of(array::from_fn(|k| first.wrapping_add((k & 0xff) as u8)))
 }
 
-fn nodes(heap: Global, n: u32) -> Result<Vec<Digest>, AllocError> {
-    let mut all = Vec::new(heap);
-    for i in 0..n {
-        all.push(node(i))?;
-    }
-    Ok(all)
-}
-
-// The root over the nodes: from the slice at once, or read one by one as a calendar.
-fn root_of<J: Joining<Node = Digest>>(xs: &[Digest], n: u32, one_by_one: bool) -> Option<Digest> {
-    if one_by_one {
-        calendar_root::<J, Slice<Digest>>(&Slice::new(xs), n.saturating_sub(1))
-    } else {
-        root::<J>(xs)
-    }
-}
-
-// The path of a place, in the same two ways.
-fn path_of<J: Joining<Node = Digest>>(
-    xs: &[Digest],
-    n: u32,
-    place: u32,
-    one_by_one: bool,
-    links: &mut [Link<Digest>],
-) -> Result<usize, PathRefusal> {
-    if one_by_one {
-        calendar_path::<J, Slice<Digest>>(&Slice::new(xs), n.saturating_sub(1), place, links)
-    } else {
-        path::<J>(xs, place as usize, links)
-    }
-}
-
-// Adds the links of one place to the bytes, and answers 1 where they lead from its node to the root.
-fn add_path<J: Joining<Node = Digest>>(
-    xs: &[Digest],
-    n: u32,
-    place: u32,
-    one_by_one: bool,
+// Adds the links of a node's path to the bytes, and answers whether they lead from it to the root.
+fn add_path<T: Tree>(
+    nodes: &[Digest],
     top: &Digest,
+    (place, node): (u32, &Digest),
     bytes: &mut Vec<u8>,
-) -> Result<u32, AllocError> {
+) -> Result<bool, AllocError> {
     let mut links = [Link {
         side: Side::Right,
         sibling: *top,
     }; 8];
-    let Ok(count) = path_of::<J>(xs, n, place, one_by_one, &mut links) else {
-        return Ok(0);
+    let Ok(count) = T::path(nodes, place, &mut links) else {
+        return Ok(false);
     };
-    let way = links.get(0..count).unwrap_or(&[]);
+    let way = links.get(..count).unwrap_or(&[]);
     for link in way {
         bytes.push(link.side.number())?;
         bytes.extend_from_slice(link.sibling.as_bytes())?;
     }
-    let Some(start) = xs.get(place as usize) else {
-        return Ok(0);
-    };
-    if follow::<J>(start, way) == *top {
-        Ok(1)
-    } else {
-        Ok(0)
-    }
+    Ok(follow::<T::Nodes>(node, way) == *top)
 }
 
-fn size<J: Joining<Node = Digest>, H: Hash>(
-    rt: &HostRuntime,
-    label: &str,
-    n: u32,
-    one_by_one: bool,
-) -> anyhow::Result<()> {
-    let xs = nodes(rt.alloc(), n)?;
-    let Some(top) = root_of::<J>(xs.as_slice(), n, one_by_one) else {
-        return Err(anyhow!("no root"));
-    };
+// The tree over n nodes: its root, a digest of all its paths, and how many of them lead to the root.
+fn show_tree<T: Tree>(rt: &HostRuntime, label: &str, n: u32) -> anyhow::Result<()> {
+    let nodes: Vec<Digest> = (0..n).map(node).collect(rt.alloc())?;
+    let top = T::root(nodes.as_slice()).context("no root")?;
     println!(rt; "{label} {n}: root {top}")?;
     let mut bytes = Vec::new(rt.alloc());
     let mut followed = 0u32;
-    for place in 0..n {
-        let one = add_path::<J>(xs.as_slice(), n, place, one_by_one, &top, &mut bytes)?;
-        followed = followed.saturating_add(one);
+    for place in (0..n).zip(&nodes) {
+        if add_path::<T>(nodes.as_slice(), &top, place, &mut bytes)? {
+            followed = followed.saturating_add(1);
+        }
     }
-    match H::digest(bytes.as_slice()) {
+    match T::Digester::digest(bytes.as_slice()) {
         Ok(digest) => println!(rt; "{label} {n}: paths {digest}, {followed} followed")?,
         Err(_) => println!(rt; "{label} {n}: refused")?,
     }
     Ok(())
 }
 
-fn all<J: Joining<Node = Digest>, H: Hash>(
-    rt: &HostRuntime,
-    label: &str,
-    one_by_one: bool,
-) -> anyhow::Result<()> {
+fn show_trees<T: Tree>(rt: &HostRuntime, label: &str) -> anyhow::Result<()> {
     for n in 1..=SIZES {
-        size::<J, H>(rt, label, n, one_by_one)?;
+        show_tree::<T>(rt, label, n)?;
     }
     Ok(())
+}
+
+fn mark(side: &Side) -> char {
+    match side {
+        Side::Right => '0',
+        Side::Left => '1',
+    }
 }
 
 // A second's sides as text, leaf first.
 fn shown(heap: Global, publication: u32, second: u32) -> Result<String, AllocError> {
     let mut out = [Side::Right; 31];
-    let Some(count) = sides(publication, second, &mut out) else {
-        return String::from_str(heap, "absent");
-    };
-    if count == 0 {
-        return String::from_str(heap, "none");
+    match sides(publication, second, &mut out) {
+        None => String::from_str(heap, "absent"),
+        Some(0) => String::from_str(heap, "none"),
+        Some(count) => out.iter().take(count).map(mark).collect(heap),
     }
-    let mut text = String::new(heap);
-    for side in out.iter().take(count) {
-        match *side {
-            Side::Right => text.push('0')?,
-            Side::Left => text.push('1')?,
-        }
-    }
-    Ok(text)
 }
 
 fn shapes(rt: &HostRuntime, n: u32) -> anyhow::Result<()> {
@@ -168,10 +183,10 @@ fn shapes(rt: &HostRuntime, n: u32) -> anyhow::Result<()> {
 }
 
 fn run(rt: &HostRuntime) -> anyhow::Result<()> {
-    all::<RoundNodes<Sha256>, Sha256>(rt, "SHA-256 round", false)?;
-    all::<CalendarNodes<Sha256>, Sha256>(rt, "SHA-256 calendar", true)?;
-    all::<RoundNodes<Sha3>, Sha3>(rt, "SHA3-256 round", false)?;
-    all::<CalendarNodes<Sha3>, Sha3>(rt, "SHA3-256 calendar", true)?;
+    show_trees::<Rounds<Sha256>>(rt, "SHA-256 round")?;
+    show_trees::<Calendars<Sha256>>(rt, "SHA-256 calendar")?;
+    show_trees::<Rounds<Sha3>>(rt, "SHA3-256 round")?;
+    show_trees::<Calendars<Sha3>>(rt, "SHA3-256 calendar")?;
     for n in 1..=SIZES {
         shapes(rt, n)?;
     }
