@@ -1,5 +1,6 @@
 -- `split n` is the largest power of two below n, and nothing else is.
-use Rattle.std.proofs.Common.{◌≡◌, ℕ, zero, suc, ◌*◌, ◌^◌, ◌<◌, ◌≤◌, ltb, ◌⊎◌, sym, refl, ap, ◌∙◌, inl, inr, pow-suc, arith, pow_mono}
+use Rattle.std.proofs.Common.{◌≡◌, ℕ, zero, suc, ◌-◌, ◌*◌, ◌%◌, ◌^◌, ◌<◌, ◌≤◌, ltb, ◌⊎◌, sym, refl, ap, ◌∙◌, inl, inr, pow-suc, arith, pow_mono}
+use Rattle.std.proofs.lemmas.Nat.{one_shl}
 use Rattle.std.proofs.lemmas.Bool.{ltb-true, ltb-false, cond_both, cases_order}
 use Rattle.tree.specs.Split.{Splits, doubled, split}
 use Rattle.tree.specs.Laws.{SplitLaw}
@@ -64,3 +65,8 @@ unfolding split doubled
 split_small zero h = refl
 split_small (suc zero) h = refl
 split_small (suc (suc n)) h = absurd (omega arith)
+
+-- the highest bit of n - 1
+pub top_bit : (n j : ℕ) → 2 ≤ n → 2 ^ j ≤ n - 1 → n - 1 < 2 * 2 ^ j → j < 64 → (1 * 2 ^ j) % 2 ^ 64 ≡ split n
+top_bit n j more low high fits =
+    one_shl j 64 fits ∙ splits_unique n (2 ^ j) (split n) ((j, refl), omega arith, omega arith) (split_splits n more)

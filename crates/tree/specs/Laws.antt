@@ -1,9 +1,9 @@
 -- What holds of every tree, and the examples that every reader may check by hand.
-use Rattle.std.specs.Prelude.{◌≡◌, ℕ, ◌^◌, ◌<◌, ◌≤◌, List, [], ◌∷◌, map, length, take, drop, Some, ◌≢◌, slice_index_or}
+use Rattle.std.specs.Prelude.{◌≡◌, ℕ, ◌^◌, ◌<◌, ◌≤◌, List, [], ◌∷◌, map, reverse, length, take, drop, Some, ◌≢◌, slice_index_or}
 use Rattle.tree.specs.declared.link.Side.TheVariants.{Right, Left}
 use Rattle.tree.specs.declared.link.Link.{Link}
 use Rattle.tree.specs.Split.{Splits, split}
-use Rattle.tree.specs.Trees.{root, path, followed, shape, second_shape}
+use Rattle.tree.specs.Trees.{root, path, followed, shape, second_shape, siblings}
 
 -- from 2 on, `split n` splits n, and nothing else does
 abbrev pub SplitLaw : Type 0
@@ -47,3 +47,7 @@ Examples =
     × (second_shape 6 5 ≡ Left ∷ Right ∷ Left ∷ [])
     × (second_shape 6 6 ≡ Left ∷ Left ∷ [])
     × ((second : ℕ) → second ≤ 2 → second_shape 2 second ≢ Left ∷ Left ∷ [])
+
+-- the sides of a place's siblings, from the last to the first, are its shape
+abbrev pub SiblingLaw : Type 0
+SiblingLaw = (n i : ℕ) → shape n i ≡ reverse (map (λ s. s.side) (siblings 0 n i))

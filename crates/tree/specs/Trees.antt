@@ -3,6 +3,7 @@ use Rattle.std.specs.Prelude.{ℕ, zero, suc, ◌+◌, ◌-◌, cond, List, [], 
 use Rattle.tree.specs.declared.link.Side.{Side}
 use Rattle.tree.specs.declared.link.Side.TheVariants.{Right, Left}
 use Rattle.tree.specs.declared.link.Link.{Link}
+use Rattle.tree.specs.declared.descent.Sibling.{Sibling}
 use Rattle.tree.specs.Split.{split}
 
 -- how a list is parted: not at all, or into a left and a right part
@@ -71,3 +72,15 @@ shape n i = shape_under (tree n) i
 -- the shape of a second under publication p, whose calendar has the seconds 0 to p
 abbrev pub second_shape : ℕ → ℕ → List Side
 second_shape p second = shape (p + 1) second
+
+-- the siblings on the way from the root down to place i, in a tree whose leaves stand at the places from `low` on
+abbrev pub siblings_under : Tree → ℕ → ℕ → List Sibling
+siblings_under leaf low i = []
+siblings_under (node left right) low i =
+    cond (nat_lt i (low + leaves left))
+    (record { side = Right; low = low + leaves left; end = low + leaves left + leaves right } ∷ siblings_under left low i)
+    (record { side = Left; low = low; end = low + leaves left } ∷ siblings_under right (low + leaves left) i)
+
+-- the same under the leaves from `low` to `end` - 1
+abbrev pub siblings : ℕ → ℕ → ℕ → List Sibling
+siblings low end i = siblings_under (tree (end - low)) low i

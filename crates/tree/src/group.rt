@@ -1,99 +1,60 @@
 // The root and the paths of a list of nodes.
-ghost use Rattle.std.specs.Prelude.{◌≡◌, ◌<◌, ◌≤◌, length, take, Some, Decides};
+ghost use Rattle.std.specs.Prelude.{◌≡◌, ◌<◌, ◌≤◌, length, Some};
 ghost use Rattle.std.specs.List.{between};
 ghost use Rattle.tree.specs.Answers.{path_answer, path_over, links_after};
 ghost use Rattle.tree.specs.Laws.{RootLaw, PathLaw, ShapeLaw};
 ghost use Rattle.tree.specs.Trees.{root, path, shape};
-ghost use Rattle.tree.specs.declared.link.Side.TheVariants.{Right, Left};
 
+use crate::descent::{Sibling, Siblings};
 use crate::joining::Joining;
-use crate::link::{Link, Side};
+use crate::link::Link;
 use crate::parting::left_part;
 use crate::refusal::PathRefusal;
 use crate::shapes::sides_of;
-
-// The root over one node and more.
-fn root_over<J: Joining>(nodes: &[J::Node]) -> J::Node
-    requires { 1 ≤ length nodes.now }
-    ensures { root J.Joining.joined nodes.now ≡ Some result }
-{
-    if nodes.len() < 2 {
-        return nodes[0];
-    }
-    let k = left_part(nodes.len());
-    let left = root_over::<J>(&nodes[0..k]);
-    let right = root_over::<J>(&nodes[k..]);
-    J::join(&left, &right)
-}
-
-// Whether a list has nodes, and so a root.
-fn has_root<J: Joining>(nodes: &[J::Node]) -> bool
-    ensures value { Decides result (1 ≤ length nodes.now) }
-    ensures parted { RootLaw J.Joining.joined }
-{
-    nodes.len() >= 1
-}
 
 // The root over a list of nodes; none over an empty list.
 pub fn root<J: Joining>(nodes: &[J::Node]) -> Option<J::Node>
     ensures value { result ≡ root J.Joining.joined nodes.now }
     ensures parted { RootLaw J.Joining.joined }
 {
-    let some = has_root::<J>(nodes);
-    if some {
-        Some(root_over::<J>(nodes))
-    } else {
-        None
-    }
-}
-
-// The last link of a place's path, in a list parted at k: the root of the part that the place is not in.
-fn last_link<J: Joining>(nodes: &[J::Node], k: usize, place: usize) -> Link<J::Node>
-    requires { (1 ≤ k) × (k < length nodes.now) }
-    ensures in_left { place < k → (result.side ≡ Right) × (root J.Joining.joined (between k (length nodes.now) nodes.now) ≡ Some result.sibling) }
-    ensures in_right { k ≤ place → (result.side ≡ Left) × (root J.Joining.joined (take k nodes.now) ≡ Some result.sibling) }
-{
-    if place < k {
-        Link {
-            side: Side::Right,
-            sibling: root_over::<J>(&nodes[k..]),
-        }
-    } else {
-        Link {
-            side: Side::Left,
-            sibling: root_over::<J>(&nodes[0..k]),
+    match nodes {
+        [] => None,
+        [node] => Some(*node),
+        _ => {
+            let (left, right) = nodes.split_at(left_part(nodes.len())?);
+            Some(J::join(&root::<J>(left)?, &root::<J>(right)?))
         }
     }
 }
 
-// Writes the path of a place, deepest link first, and answers how many links it has.
-fn write_path<J: Joining>(nodes: &[J::Node], place: usize, links: &mut [Link<J::Node>]) -> usize
-    requires { (place < length nodes.now) × (length (shape (length nodes.now) place) ≤ length links.old) }
-    ensures count { result ≡ length (shape (length nodes.now) place) }
-    ensures links { links.new ≡ path_over (path J.Joining.joined nodes.now place) links.old }
+// The link to a sibling: the root over its leaves.
+fn link_to<J: Joining>(nodes: &[J::Node], sibling: Sibling) -> Link<J::Node>
+    requires { (sibling.low < sibling.end) × (sibling.end ≤ length nodes.now) }
+    ensures side { result.side ≡ sibling.side }
+    ensures below { root J.Joining.joined (between sibling.low sibling.end nodes.now) ≡ Some result.sibling }
 {
-    if nodes.len() < 2 {
-        return 0;
+    Link {
+        side: sibling.side,
+        sibling: root::<J>(&nodes[sibling.low..sibling.end]).unwrap(),
     }
-    let k = left_part(nodes.len());
-    let last = last_link::<J>(nodes, k, place);
-    if place < k {
-        let count = write_path::<J>(&nodes[0..k], place, links);
-        links[count] = last;
-        return count + 1;
-    }
-    let count = write_path::<J>(&nodes[k..], place - k, links);
-    links[count] = last;
-    count + 1
 }
 
-// How many links the path of a place has.
-fn path_length<J: Joining>(nodes: &[J::Node], place: usize) -> usize
-    ensures count { result ≡ length (shape (length nodes.now) place) }
-    ensures leads { PathLaw J.Joining.joined }
-    ensures shaped { ShapeLaw J.Joining.joined }
+// Writes the path of a place at the front of the links, from its last link, at the root, down to its first.
+fn write_path<J: Joining>(
+    nodes: &[J::Node],
+    place: usize,
+    count: usize,
+    links: &mut [Link<J::Node>],
+)
+    requires there { place < length nodes.now }
+    requires room { (count ≡ length (shape (length nodes.now) place)) × (count ≤ length links.old) }
+    ensures { links.new ≡ path_over (path J.Joining.joined nodes.now place) links.old }
 {
-    sides_of(nodes.len(), place)
+    let mut left = count;
+    for sibling in Siblings::new(nodes.len(), place) {
+        left -= 1;
+        links[left] = link_to::<J>(nodes, sibling);
+    }
 }
 
 // The path of a place, written at the front of the links lent, and how many links it has.
@@ -107,12 +68,13 @@ pub fn path<J: Joining>(
     ensures leads { PathLaw J.Joining.joined }
     ensures shaped { ShapeLaw J.Joining.joined }
 {
-    let count = path_length::<J>(nodes, place);
     if place >= nodes.len() {
         return Err(PathRefusal::Absent);
     }
+    let count = sides_of(nodes.len(), place);
     if links.len() < count {
         return Err(PathRefusal::Short);
     }
-    Ok(write_path::<J>(nodes, place, links))
+    write_path::<J>(nodes, place, count, links);
+    Ok(count)
 }

@@ -1,51 +1,49 @@
 // One step of a path: where the sibling stands, and the sibling.
-ghost use Rattle.std.specs.Prelude.{◌≡◌, ◌==◌, Decides};
-ghost use Rattle.tree.specs.Sides.{side_number};
-ghost use Rattle.std.specs.Ordering.{on};
-ghost use Rattle.std.specs.Cmp.Rules.{comparing};
-ghost use Rattle.std.proofs.Common.{rules};
+ghost use Rattle.std.specs.Prelude.{◌≡◌, Decides};
+ghost use Rattle.tree.specs.Sides.{side_number, side_answer};
 
 // Where the sibling stands: right of the node, or left of it.
-#[derive(Clone, Copy)]
+#[derive(Clone, Copy, Debug, PartialEq, Eq)]
 pub enum Side {
-    Right,
-    Left,
+    Right = 0,
+    Left = 1,
 }
+
+// A number that names no side.
+#[derive(Clone, Copy, Debug, PartialEq, Eq)]
+pub struct UnknownSide(pub u8);
 
 impl Side {
     // The side's number in tokens and shapes.
     pub fn number(self) -> u8
         ensures { result ≡ side_number self }
     {
-        match self {
-            Side::Right => 0,
-            Side::Left => 1,
-        }
+        self as u8
     }
-}
 
-impl PartialEq for Side {
-    ghost eq = { on side_number ◌==◌ };
-
-    ghost laws = { Prim.search (comparing, rules) };
-
-    fn eq(&self, other: &Side) -> bool
-        ensures value { result ≡ on side_number ◌==◌ self.now other.now }
-        ensures exact { Decides result (self.now ≡ other.now) }
+    // Whether both are one side: what `==` answers.
+    pub fn is(self, other: Side) -> bool
+        ensures { Decides result (self ≡ other) }
     {
-        match (*self, *other) {
-            (Side::Right, Side::Right) => true,
-            (Side::Left, Side::Left) => true,
-            _ => false,
+        self == other
+    }
+}
+
+impl TryFrom<u8> for Side {
+    type Error = UnknownSide;
+
+    ghost try_from_gives = { λ number result. result ≡ side_answer number };
+
+    fn try_from(number: u8) -> Result<Side, UnknownSide> {
+        match number {
+            0 => Ok(Side::Right),
+            1 => Ok(Side::Left),
+            _ => Err(UnknownSide(number)),
         }
     }
 }
 
-impl Eq for Side {
-    ghost laws = { Prim.search (comparing, rules) };
-}
-
-#[derive(Clone, Copy)]
+#[derive(Clone, Copy, Debug, PartialEq, Eq)]
 pub struct Link<N> {
     pub side: Side,
     pub sibling: N,

@@ -4,27 +4,14 @@ ghost use Rattle.tree.specs.Answers.{over, sides_answer, sides_after};
 ghost use Rattle.tree.specs.Laws.{PlaceLaw, LengthLaw, Examples};
 ghost use Rattle.tree.specs.Trees.{shape, second_shape};
 
+use crate::descent::Siblings;
 use crate::link::Side;
-use crate::parting::left_part;
 
 // How many sides a place has among n leaves.
 pub(crate) fn sides_of(n: usize, place: usize) -> usize
     ensures { result ≡ length (shape n place) }
 {
-    let mut leaves = n;
-    let mut at = place;
-    let mut count = 0;
-    while leaves > 1 {
-        let k = left_part(leaves);
-        if at < k {
-            leaves = k;
-        } else {
-            leaves -= k;
-            at -= k;
-        }
-        count += 1;
-    }
-    count
+    Siblings::new(n, place).count()
 }
 
 // Writes the shape of a place among n leaves, deepest side first, and answers how many sides it has.
@@ -33,18 +20,13 @@ fn write_shape(n: usize, place: usize, out: &mut [Side]) -> usize
     ensures count { result ≡ length (shape n place) }
     ensures sides { out.new ≡ over (shape n place) out.old }
 {
-    if n < 2 {
-        return 0;
+    let count = sides_of(n, place);
+    let mut left = count;
+    for sibling in Siblings::new(n, place) {
+        left -= 1;
+        out[left] = sibling.side;
     }
-    let k = left_part(n);
-    if place < k {
-        let count = write_shape(k, place, out);
-        out[count] = Side::Right;
-        return count + 1;
-    }
-    let count = write_shape(n - k, place - k, out);
-    out[count] = Side::Left;
-    count + 1
+    count
 }
 
 // Whether a publication's calendar has a second.
@@ -65,8 +47,8 @@ pub fn sides(publication: u32, second: u32, out: &mut [Side; 31]) -> Option<usiz
     ensures short { LengthLaw }
     ensures examples { Examples }
 {
-    let inside = calendar_has(publication, second);
-    if publication >= 0x8000_0000 || !inside {
+    // no `then`: through a closure that writes, what `out` holds afterwards is not proved
+    if !calendar_has(publication, second) || publication >= 0x8000_0000 {
         return None;
     }
     Some(write_shape(publication as usize + 1, second as usize, out))
@@ -86,7 +68,7 @@ fn shape_is(n: usize, place: usize, sides: &[Side]) -> bool
 {
     let mut own = [Side::Right; 32];
     let count = write_shape(n, place, &mut own);
-    same(sides, &own[0..count])
+    same(sides, &own[..count])
 }
 
 // Whether a second is one of the publication's, and these are its sides.
@@ -96,6 +78,5 @@ pub fn has_shape(publication: u32, second: u32, sides: &[Side]) -> bool
     ensures short { LengthLaw }
     ensures examples { Examples }
 {
-    let inside = calendar_has(publication, second);
-    inside && shape_is(publication as usize + 1, second as usize, sides)
+    calendar_has(publication, second) && shape_is(publication as usize + 1, second as usize, sides)
 }
