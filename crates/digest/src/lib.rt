@@ -1,6 +1,7 @@
 // Digests, what a hash is, and the digests of the messages that rounds and the calendar are made of.
 #![tactic(auto)]
 
+mod blank;
 mod hash;
 mod messages;
 mod refusal;

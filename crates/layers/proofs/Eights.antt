@@ -1,8 +1,8 @@
 -- The groups of a list: where an item stands among them, and where its way leads.
-use Rattle.std.proofs.Common.{◌≡◌, ℕ, ◌+◌, ◌-◌, ◌*◌, ◌/◌, ◌%◌, ◌<◌, ◌≤◌, min, ltb, List, [], ◌∷◌, ◌++◌, length, get_or, take, drop, Some, Ok, Option, unwrap_or, sym, refl, ap, ◌∙◌, inl, inr, arith}
-use Rattle.std.specs.List.{slice_get}
-use Rattle.std.proofs.lemmas.List.{length-append, length-map, length-take, length-drop, take_all, take-take, drop-take, get_or-take, get_or-drop, get_or_past}
-use Rattle.std.proofs.lemmas.List.FromFn.{length-map-range_with_len, get_or-map-range_with_len}
+use Rattle.std.proofs.Common.{◌≡◌, ℕ, ◌+◌, ◌-◌, ◌*◌, ◌/◌, ◌%◌, ◌<◌, ◌≤◌, min, ltb, List, [], ◌∷◌, ◌++◌, length, get_or, take, drop, Some, Ok, Option, unwrap_or, map, sym, refl, ap, ◌∙◌, inl, inr, arith}
+use Rattle.std.specs.List.{slice_get, range_with_len}
+use Rattle.std.proofs.lemmas.List.{append-nil, nil_from_length, length-append, length-map, length-take, length-drop, take_all, drop_all, take_at, drop_at, drop-drop, take-take, drop-take, get_or-take, get_or-drop, get_or_past}
+use Rattle.std.proofs.lemmas.List.FromFn.{length-map-range_with_len, map-range_with_len_more, get_or-map-range_with_len}
 use Rattle.std.proofs.lemmas.Option.{slice_get-get_or}
 use Rattle.std.proofs.lemmas.Bool.{cond-true, cond-false, lt-ltb, le-ltb, cases_lt}
 use Rattle.digest.specs.declared.value.Digest.{Digest}
@@ -28,6 +28,20 @@ group_part items j n e =
     elim (cases_lt (length items - 8 * j) 8) [
       | inl less ↦ take_all n (drop (8 * j) items) (omega arith) ∙ sym (take_all 8 (drop (8 * j) items) (omega arith))
       | inr more ↦ let whole : n ≡ 8 = omega arith in ap (λ m. take m (drop (8 * j) items)) whole
+    ]
+
+-- a list cut after its first eight
+pub first_group : (xs chunk rest : List Digest) → xs ≡ chunk ++ rest → length chunk ≡ min 8 (length xs) → (chunk ≡ take 8 xs) × (rest ≡ drop 8 xs)
+first_group xs chunk rest parts size =
+    let sum = ap length parts ∙ length-append chunk rest in
+    elim (cases_lt (length xs) 8) [
+      | inl short ↦
+          let none : rest ≡ [] = nil_from_length rest (omega arith) in
+          let all : chunk ≡ xs = sym (append-nil chunk) ∙ (ap (λ ys. chunk ++ ys) (sym none) ∙ sym parts) in
+          (all ∙ sym (take_all 8 xs (omega arith)), none ∙ sym (drop_all 8 xs (omega arith)))
+      | inr long ↦
+          let whole : length chunk ≡ 8 = omega arith in
+          (sym (take_at chunk rest 8 whole) ∙ ap (take 8) (sym parts), sym (drop_at chunk rest 8 whole) ∙ ap (drop 8) (sym parts))
     ]
 
 pub length_group : (items : List Digest) (j : ℕ) → length (group items j) ≡ min 8 (length items - 8 * j)
@@ -109,6 +123,42 @@ module _ (digested : List ℕ → Digest) where
 
   pub length_roots : (items : List Digest) → length (group_roots digested items) ≡ groups (length items)
   length_roots items = length-map-range_with_len (λ j. group_root digested (group items j)) 0 (groups (length items))
+
+  -- the groups' roots up to a place between groups, and what remains of the list from there
+  pub record RootsSoFar (items roots rest : List Digest) : Type 0 where
+    pub so : roots ≡ map (λ j. group_root digested (group items j)) (range_with_len 0 (length roots))
+    pub from : rest ≡ drop (8 * length roots) items
+    pub near : 8 * length roots < length items + 8
+
+  pub no_roots : (items : List Digest) → RootsSoFar items [] items
+  no_roots items = record { so = refl; from = refl; near = omega arith }
+
+  -- the root of the group that comes next
+  pub roots_more : (items roots rest chunk left : List Digest) → RootsSoFar items roots rest → rest ≡ chunk ++ left → length chunk ≡ min 8 (length rest)
+      → 0 < length rest → RootsSoFar items (roots ++ group_root digested chunk ∷ []) left
+  roots_more items roots rest chunk left far parts size some =
+      let n : ℕ = length roots in
+      let root : ℕ → Digest = λ j. group_root digested (group items j) in
+      let cut = first_group rest chunk left parts size in
+      let more : length (roots ++ group_root digested chunk ∷ []) ≡ n + 1 = length-append roots (group_root digested chunk ∷ []) in
+      let here : group_root digested chunk ≡ root n = ap (group_root digested) (cut.0 ∙ ap (take 8) far.from) in
+      let on : 8 + 8 * n ≡ 8 * (n + 1) = omega arith in
+      record {
+        so =
+            ap (λ xs. roots ++ xs ∷ []) here
+            ∙ (ap (λ xs. xs ++ root n ∷ []) far.so
+            ∙ (sym (map-range_with_len_more root 0 n n (omega arith)) ∙ ap (λ k. map root (range_with_len 0 k)) (sym more)));
+        from =
+            cut.1
+            ∙ (ap (drop 8) far.from
+            ∙ (drop-drop 8 (8 * n) items ∙ (ap (λ k. drop k items) (omega arith) ∙ ap (λ k. drop (8 * k) items) (sym more))));
+        near = omega (arith, more, ap length far.from, length-drop (8 * n) items);
+      }
+
+  pub roots_all : (items roots rest : List Digest) → RootsSoFar items roots rest → length rest ≡ 0 → roots ≡ group_roots digested items
+  roots_all items roots rest far none =
+      let count : length roots ≡ groups (length items) = omega (arith, far.near, ap length far.from, length-drop (8 * length roots) items) in
+      far.so ∙ ap (λ n. map (λ j. group_root digested (group items j)) (range_with_len 0 n)) count
 
   -- the root of each group goes down as the item of its number
   pub root_at : (items : List Digest) (j : ℕ) → j < groups (length items)

@@ -7,6 +7,7 @@ use Rattle.std.proofs.lemmas.Option.{slice_get-get_or, slice_get_past}
 use Rattle.std.proofs.lemmas.Bool.{cond-true, cond-false, lt-ltb, le-ltb, cases_lt, both_ways}
 use Rattle.tree.specs.declared.link.Link.{Link}
 use Rattle.tree.specs.Trees.{step, followed}
+use Rattle.pile.specs.declared.refusal.CommitRefusal.{CommitRefusal}
 use Rattle.pile.specs.declared.refusal.WayRefusal.{WayRefusal}
 use Rattle.pile.specs.declared.refusal.WayRefusal.TheVariants.{Absent, Short}
 use Rattle.pile.specs.Meaning.{Meaning, Way}
@@ -27,6 +28,10 @@ nth_is xs i x e =
       | inl h ↦ (h, let same = slice_get-get_or xs i x h in cc)
       | inr past ↦ let none = slice_get_past xs i past in let z : ◌≡◌ {A = ℕ} 0 1 = cc in absurd (omega arith)
     ]
+
+-- what is answered is no refusal
+pub no_refusal : {P : Type 0} (r : Result (Unit {0}) CommitRefusal) (refusal : CommitRefusal) → r ≡ Ok tt → r ≡ Err refusal → P
+no_refusal r refusal ok err = let z : ◌≡◌ {A = ℕ} 0 1 = cc in absurd (omega arith)
 
 module _ (below : Meaning) (front : Way) (place room : ℕ) where
   pub behind_absent : length below.round ≤ place → behind_answer below front place room ≡ Err Absent

@@ -2,4 +2,3 @@ pub mod Behind
 pub mod Grouping
 pub mod Masking
 pub mod Table
-pub mod Kept

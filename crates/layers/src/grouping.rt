@@ -1,34 +1,31 @@
 // Grouping: a list of at most 256 digests goes down as the roots of its groups of eight.
-ghost use Rattle.std.specs.Prelude.{◌≡◌, IfOk, IfErr};
-ghost use Rattle.layers.specs.Kept.{stored_items};
+ghost use Rattle.std.specs.Prelude.{◌≡◌};
 ghost use Rattle.layers.specs.Table.{NineTable};
 ghost use Rattle.layers.specs.Grouping.{group_roots, grouping_meaning, grouping_fresh, grouping_seal};
 
 use crate::behind::behind;
 use crate::groups::{group_path, group_roots};
-use crate::stored::Stored;
+use arrayvec::ArrayVec;
 use digest::Digest;
 use pile::{CommitRefusal, Pile, WayRefusal};
-use std::alloc::{AllocFailed, Global};
 use tree::{Link, Side};
 
 #[derive(Drop)]
 pub struct Grouping<P> {
     below: P,
-    stored: Stored,
+    list: ArrayVec<Digest, 256>,
 }
 
 impl<P: Pile> Grouping<P> {
-    // A grouping over a pile, which has stored no list yet; without memory for it, the pile is handed back.
-    pub fn over(heap: Global, below: P) -> Result<Grouping<P>, AllocFailed<P>>
-        ensures pile { IfOk result (λ g. g.below ≡ below) }
-        ensures meaning { IfOk result (λ g. grouping_meaning P.Digester.Hash.digested (stored_items g.stored) (P.Pile.meaning g.below) ≡ grouping_fresh (P.Pile.meaning below)) }
-        ensures refused { IfErr result (λ y. y.value ≡ below) }
+    // A grouping over a pile, which has stored no list yet.
+    pub fn over(below: P) -> Grouping<P>
+        ensures pile { result.below ≡ below }
+        ensures meaning { grouping_meaning P.Digester.Hash.digested result.list.items (P.Pile.meaning result.below) ≡ grouping_fresh (P.Pile.meaning below) }
         ensures table { NineTable }
     {
-        match Stored::none(heap) {
-            Ok(stored) => Ok(Grouping { below, stored }),
-            Err(_) => Err(AllocFailed { value: below }),
+        Grouping {
+            below,
+            list: ArrayVec::new(),
         }
     }
 }
@@ -44,23 +41,22 @@ fn blank() -> [Link<Digest>; 3] {
 impl<P: Pile> Pile for Grouping<P> {
     type Digester = P::Digester;
 
-    ghost meaning = { λ p. grouping_meaning P.Digester.Hash.digested (stored_items p.stored) (P.Pile.meaning p.below) };
+    ghost meaning = { λ p. grouping_meaning P.Digester.Hash.digested p.list.items (P.Pile.meaning p.below) };
 
     ghost seal = { λ p items. grouping_seal P.Digester.Hash.digested items (P.Pile.seal p.below (group_roots P.Digester.Hash.digested items)) };
 
     fn commit(&mut self, list: &[Digest]) -> Result<(), CommitRefusal> {
+        let Ok(list) = ArrayVec::try_from(list) else {
+            return Err(CommitRefusal::TooMany);
+        };
         if list.len() > self.most() {
             return Err(CommitRefusal::TooMany);
         }
         if self.below.seconds() >= self.below.span() {
             return Err(CommitRefusal::Full);
         }
-        let mut roots = [Digest::of([0; 32]); 32];
-        let count = group_roots::<P::Digester>(list, &mut roots);
-        match self.below.commit(&roots[0..count]) {
-            Ok(()) => self.stored.store(list),
-            Err(_) => unreachable(),
-        }
+        self.below.commit(&group_roots::<P::Digester>(&list))?;
+        self.list = list;
         Ok(())
     }
 
@@ -73,7 +69,7 @@ impl<P: Pile> Pile for Grouping<P> {
     }
 
     fn way_length(&self, place: usize) -> Option<u8> {
-        let items = self.stored.items();
+        let items = self.list.as_slice();
         if place >= items.len() {
             return None;
         }
@@ -87,7 +83,7 @@ impl<P: Pile> Pile for Grouping<P> {
     }
 
     fn way(&self, place: usize, links: &mut [Link<Digest>]) -> Result<usize, WayRefusal> {
-        let items = self.stored.items();
+        let items = self.list.as_slice();
         if place >= items.len() {
             return Err(WayRefusal::Absent);
         }

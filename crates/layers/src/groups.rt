@@ -1,7 +1,8 @@
 // The groups of a list, eight digests each or what remains: their roots, and the paths in them.
 ghost use Rattle.std.specs.Prelude.{◌≡◌, ◌*◌, ◌<◌, ◌≤◌, length, take};
-ghost use Rattle.layers.specs.Grouping.{group, groups, group_root, group_roots, group_path};
+ghost use Rattle.layers.specs.Grouping.{group, group_root, group_roots, group_path};
 
+use arrayvec::ArrayVec;
 use digest::{Digest, Hash, empty_second};
 use tree::{Link, RoundNodes};
 
@@ -25,17 +26,15 @@ fn group_root<H: Hash>(items: &[Digest]) -> Digest
     }
 }
 
-// The roots of a list's groups, written at the front, and how many groups there are.
-pub(crate) fn group_roots<H: Hash>(items: &[Digest], roots: &mut [Digest]) -> usize
-    requires { (length items.now ≤ 256) × (length roots.old ≡ 32) }
-    ensures count { result ≡ groups (length items.now) }
-    ensures roots { take result roots.new ≡ group_roots H.Hash.digested items.now }
+// The roots of a list's groups.
+pub(crate) fn group_roots<H: Hash>(items: &ArrayVec<Digest, 256>) -> ArrayVec<Digest, 256>
+    ensures { result.items ≡ group_roots H.Hash.digested items.now.items }
 {
-    let count = (items.len() + 7) / 8;
-    for j in 0..count {
-        roots[j] = group_root::<H>(group(items, j));
+    let mut roots = ArrayVec::new();
+    for part in items.chunks(8) {
+        roots.push(group_root::<H>(part));
     }
-    count
+    roots
 }
 
 // The path of a place in its group, written at the front, and how many links it has: at most three.

@@ -6,8 +6,6 @@ mod grouping;
 mod groups;
 mod masking;
 mod masks;
-mod slots;
-mod stored;
 
 pub use grouping::Grouping;
 pub use masking::Masking;

@@ -1,14 +1,12 @@
 // Masking: each item of a list of at most 256 goes down under a mask that is made from a seed.
-ghost use Rattle.std.specs.Prelude.{◌≡◌, length, IfOk, IfErr};
-ghost use Rattle.layers.specs.Kept.{stored_items};
+ghost use Rattle.std.specs.Prelude.{◌≡◌, length};
 ghost use Rattle.layers.specs.Masking.{masked, masking_meaning, masking_fresh, masking_seal};
 
 use crate::behind::behind;
 use crate::masks::hide;
-use crate::stored::Stored;
+use arrayvec::ArrayVec;
 use digest::{Digest, Seed, mask};
 use pile::{CommitRefusal, Pile, WayRefusal};
-use std::alloc::{AllocFailed, Global};
 use tree::{Link, Side};
 
 #[derive(Drop)]
@@ -16,25 +14,21 @@ pub struct Masking<P> {
     below: P,
     seed: Seed,
     second: u32,
-    stored: Stored,
+    list: ArrayVec<Digest, 256>,
 }
 
 impl<P: Pile> Masking<P> {
-    // A masking over a pile, which has stored no list yet; without memory for it, the pile is handed back.
-    pub fn over(heap: Global, below: P, seed: Seed) -> Result<Masking<P>, AllocFailed<P>>
-        ensures pile { IfOk result (λ m. m.below ≡ below) }
-        ensures seed { IfOk result (λ m. m.seed ≡ seed) }
-        ensures meaning { IfOk result (λ m. masking_meaning P.Digester.Hash.digested m.seed m.second (stored_items m.stored) (P.Pile.meaning m.below) ≡ masking_fresh (P.Pile.meaning below)) }
-        ensures refused { IfErr result (λ y. y.value ≡ below) }
+    // A masking over a pile, which has stored no list yet.
+    pub fn over(below: P, seed: Seed) -> Masking<P>
+        ensures pile { result.below ≡ below }
+        ensures seed { result.seed ≡ seed }
+        ensures meaning { masking_meaning P.Digester.Hash.digested result.seed result.second result.list.items (P.Pile.meaning result.below) ≡ masking_fresh (P.Pile.meaning below) }
     {
-        match Stored::none(heap) {
-            Ok(stored) => Ok(Masking {
-                below,
-                seed,
-                second: 0,
-                stored,
-            }),
-            Err(_) => Err(AllocFailed { value: below }),
+        Masking {
+            below,
+            seed,
+            second: 0,
+            list: ArrayVec::new(),
         }
     }
 }
@@ -42,11 +36,14 @@ impl<P: Pile> Masking<P> {
 impl<P: Pile> Pile for Masking<P> {
     type Digester = P::Digester;
 
-    ghost meaning = { λ p. masking_meaning P.Digester.Hash.digested p.seed p.second (stored_items p.stored) (P.Pile.meaning p.below) };
+    ghost meaning = { λ p. masking_meaning P.Digester.Hash.digested p.seed p.second p.list.items (P.Pile.meaning p.below) };
 
     ghost seal = { λ p items. masking_seal P.Digester.Hash.digested p.seed (length (P.Pile.meaning p.below).row) items (P.Pile.seal p.below (masked P.Digester.Hash.digested p.seed (length (P.Pile.meaning p.below).row) items)) };
 
     fn commit(&mut self, list: &[Digest]) -> Result<(), CommitRefusal> {
+        let Ok(list) = ArrayVec::try_from(list) else {
+            return Err(CommitRefusal::TooMany);
+        };
         if list.len() > self.most() {
             return Err(CommitRefusal::TooMany);
         }
@@ -54,15 +51,10 @@ impl<P: Pile> Pile for Masking<P> {
         if second >= self.below.span() {
             return Err(CommitRefusal::Full);
         }
-        let mut hidden = [Digest::of([0; 32]); 256];
-        hide::<P::Digester>(&self.seed, second, list, &mut hidden);
-        match self.below.commit(&hidden[0..list.len()]) {
-            Ok(()) => {
-                self.second = second;
-                self.stored.store(list);
-            }
-            Err(_) => unreachable(),
-        }
+        self.below
+            .commit(&hide::<P::Digester>(&self.seed, second, &list))?;
+        self.second = second;
+        self.list = list;
         Ok(())
     }
 
@@ -75,7 +67,7 @@ impl<P: Pile> Pile for Masking<P> {
     }
 
     fn way_length(&self, place: usize) -> Option<u8> {
-        if place >= self.stored.items().len() {
+        if place >= self.list.len() {
             return None;
         }
         match self.below.way_length(place) {
@@ -85,7 +77,7 @@ impl<P: Pile> Pile for Masking<P> {
     }
 
     fn way(&self, place: usize, links: &mut [Link<Digest>]) -> Result<usize, WayRefusal> {
-        if place >= self.stored.items().len() {
+        if place >= self.list.len() {
             return Err(WayRefusal::Absent);
         }
         let first = [Link {

@@ -1,16 +1,22 @@
 // The items of a list under their masks: mask left, item right.
-ghost use Rattle.std.specs.Prelude.{◌≡◌, ◌≤◌, length, take};
+ghost use Rattle.std.specs.Prelude.{◌≡◌};
 ghost use Rattle.layers.specs.Masking.{masked};
 
+use arrayvec::ArrayVec;
 use digest::{Digest, Hash, Seed, mask, round_node};
 
-// Each item of the list of a second under its mask, written at the front.
-pub(crate) fn hide<H: Hash>(seed: &Seed, second: u32, items: &[Digest], hidden: &mut [Digest])
-    requires { (length items.now ≤ 256) × (length hidden.old ≡ 256) }
-    ensures { take (length items.now) hidden.new ≡ masked H.Hash.digested seed.now second items.now }
+// Each item of the list of a second under its mask.
+pub(crate) fn hide<H: Hash>(
+    seed: &Seed,
+    second: u32,
+    items: &ArrayVec<Digest, 256>,
+) -> ArrayVec<Digest, 256>
+    ensures { result.items ≡ masked H.Hash.digested seed.now second items.now.items }
 {
-    for i in 0..items.len() {
-        let over = mask::<H>(seed, second, i as u16);
-        hidden[i] = round_node::<H>(&over, &items[i]);
+    let mut hidden = ArrayVec::new();
+    for (place, item) in items.iter().enumerate() {
+        let over = mask::<H>(seed, second, place as u16);
+        hidden.push(round_node::<H>(&over, item));
     }
+    hidden
 }

@@ -1,31 +1,30 @@
-use Rattle.std.proofs.Common.{◌≡◌, ℕ, List, length, get_or, take, set, refl, ap, ◌∙◌, arith}
-use Rattle.std.proofs.lemmas.List.{length-take-le, get_or-take}
-use Rattle.std.proofs.lemmas.List.Edits.{fill_by_more}
-use Rattle.std.proofs.lemmas.List.FromFn.{fill_by_all}
+use Rattle.std.proofs.Common.{ℕ, min, List, [], ◌∷◌, ◌++◌, length, sym, ap, ◌∙◌, subst, arith}
+use Rattle.std.specs.Slice.Iter.{chunks_rest}
 use Rattle.digest.specs.declared.value.Digest.{Digest}
-use Rattle.digest.specs.Messages.{empty_message}
-use Rattle.layers.specs.Grouping.{group, groups, group_root}
+use Rattle.layers.proofs.Eights.{RootsSoFar, roots_more, roots_all}
 use Rattle.layers.proofs.groups.group_roots.Goals as goal
 
-pub loop-j-preserved : goal.loop-j-preserved
-loop-j-preserved g c d k h =
+pub loop-part-preserved : goal.loop-part-preserved
+loop-part-preserved g c =
     let digested = g.H.Hash.digested in
-    let items : List Digest = c.args.items.now in
-    let root : ℕ → Digest = λ i. group_root digested (group items i) in
-    let j : ℕ = c.loop-j.j in
-    let is : c.group_root.result ≡ root j = c.group_root.ensures ∙ ap (group_root digested) c.group.ensures in
-    ap (λ x. get_or (set c.loop-j.roots j x) k d) is
-    ∙ fill_by_more root c.loop-j.roots j d (omega arith) (c.loop-j.invariant d) k h
+    let items : List Digest = c.args.items.now.items in
+    let roots : List Digest = c.loop-part.roots.items in
+    let rest : List Digest = chunks_rest c.loop-part.part-iterator in
+    let left : List Digest = chunks_rest c.next.new.self in
+    let far = c.loop-part.invariant in
+    let steps = c.in-Some.ensures.steps in
+    let size = steps.1.1 ∙ ap (λ (n : ℕ). min n (length rest)) far.size in
+    record {
+      can = omega (arith, steps.0, far.size);
+      ends = tt;
+      size = steps.0 ∙ far.size;
+      short = far.short;
+      so =
+          subst (λ xs. RootsSoFar digested items xs left) (sym (c.push.ensures.items ∙ ap (λ x. roots ++ x ∷ []) c.group_root.ensures))
+          (roots_more digested items roots rest c.in-Some.part.now left far.so steps.1.0 size steps.1.2);
+    }
 
 pub returns : goal.returns
 returns g c =
-    let digested = g.H.Hash.digested in
-    let items : List Digest = c.args.items.now in
-    let roots : List Digest = c.loop-j.roots in
-    let n : ℕ = groups (length items) in
-    let d : Digest = digested empty_message in
-    record {
-      count = refl;
-      roots = fill_by_all (λ j. group_root digested (group items j)) (take n roots) n d (length-take-le n roots (omega arith))
-          (λ k h. get_or-take n roots k d h ∙ c.loop-j.invariant d k (omega arith));
-    }
+    roots_all g.H.Hash.digested c.args.items.now.items c.loop-part.roots.items (chunks_rest c.loop-part.part-iterator)
+    c.loop-part.invariant.so c.in-None.ensures.steps.1.0

@@ -1,7 +1,13 @@
-use Rattle.std.proofs.Common.{◌≡◌, ℕ, ◌<◌, get_or}
-use Rattle.digest.specs.declared.value.Digest.{Digest}
-use Rattle.layers.specs.Grouping.{group, group_root}
+use Rattle.std.proofs.Common.{◌≡◌, ◌≤◌, length}
+use Rattle.std.specs.Slice.Iter.{chunks_rest, chunks_size}
+use Rattle.layers.proofs.Eights.{RootsSoFar}
 use Rattle.layers.proofs.groups.group_roots.Given as goal
 
-abbrev pub invariant-loop-j : goal.invariant-loop-j
-invariant-loop-j g l = (d : Digest) (k : ℕ) → k < l.j → get_or l.roots k d ≡ group_root g.H.Hash.digested (group l.items k)
+abbrev pub invariant-loop-part : goal.invariant-loop-part
+invariant-loop-part g l = record {
+  can : (goal.iterator-loop-part g).can_next l.part-iterator;
+  ends : (goal.iterator-loop-part g).is_finite l.part-iterator;
+  size : chunks_size l.part-iterator ≡ 8;
+  short : length l.items.items ≤ 256;
+  so : RootsSoFar g.H.Hash.digested l.items.items l.roots.items (chunks_rest l.part-iterator);
+}

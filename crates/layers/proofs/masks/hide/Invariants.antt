@@ -1,10 +1,10 @@
-use Rattle.std.proofs.Common.{◌≡◌, ℕ, ◌<◌, get_or}
-use Rattle.digest.specs.declared.value.Digest.{Digest}
-use Rattle.pile.specs.Meaning.{round_join}
-use Rattle.layers.specs.Masking.{mask_at}
+use Rattle.std.proofs.Common.{◌≡◌, ◌≤◌, ◌++◌, length, drop}
+use Rattle.layers.specs.Masking.{masked_from, masked}
 use Rattle.layers.proofs.masks.hide.Given as goal
 
-abbrev pub invariant-loop-i : goal.invariant-loop-i
-invariant-loop-i g l =
-    (d : Digest) (k : ℕ) → k < l.i
-    → get_or l.hidden k d ≡ round_join g.H.Hash.digested (mask_at g.H.Hash.digested l.seed l.second k) (get_or l.items k d)
+abbrev pub invariant-loop-place : goal.invariant-loop-place
+invariant-loop-place g l = record {
+  counted : length l.hidden.items ≡ l.place;
+  short : length l.item-items ≤ 256;
+  so : l.hidden.items ++ masked_from g.H.Hash.digested l.seed l.second l.place (drop l.place l.item-items) ≡ masked g.H.Hash.digested l.seed l.second l.items.items;
+}

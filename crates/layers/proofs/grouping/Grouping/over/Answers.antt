@@ -1,19 +1,14 @@
-use Rattle.std.proofs.Common.{refl, ap, ◌∙◌}
+use Rattle.std.proofs.Common.{ap, ◌∙◌}
 use Rattle.layers.specs.Grouping.{grouping_meaning}
 use Rattle.layers.proofs.Eights.{grouping_new}
 use Rattle.layers.proofs.Nine.{nine_table}
 use Rattle.layers.proofs.grouping.Grouping.over.Goals as goal
 
-pub returns-in-Ok : goal.returns-in-Ok
-returns-in-Ok g c =
+pub returns-clause-meaning : goal.returns-clause-meaning
+returns-clause-meaning g c =
     let digested = g.P.Digester.Hash.digested in
     let m = g.P.Pile.meaning c.args.below in
-    record {
-      pile = refl;
-      meaning = ap (λ xs. grouping_meaning digested xs m) c.in-Ok.ensures ∙ grouping_new digested m;
-      refused = tt;
-      table = nine_table;
-    }
+    ap (λ xs. grouping_meaning digested xs m) c.new.ensures ∙ grouping_new digested m
 
-pub returns-in-Err : goal.returns-in-Err
-returns-in-Err g c = record { pile = tt; meaning = tt; refused = refl; table = nine_table }
+pub returns-clause-table : goal.returns-clause-table
+returns-clause-table g c = nine_table

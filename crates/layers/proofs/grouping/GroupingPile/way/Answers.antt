@@ -1,25 +1,11 @@
-use Rattle.std.proofs.Common.{◌≡◌, ℕ, ◌-◌, ◌*◌, ◌/◌, ◌<◌, List, length, take, sym, refl, ap, ◌∙◌, arith}
-use Rattle.std.proofs.lemmas.List.{length-take}
+use Rattle.std.proofs.Common.{◌≡◌, ℕ, ◌-◌, ◌/◌, ◌<◌, List, length, take, ap, ◌∙◌, arith}
 use Rattle.digest.specs.declared.value.Digest.{Digest}
 use Rattle.pile.specs.Meaning.{Meaning, Way}
-use Rattle.pile.proofs.Answered.{way_absent}
 use Rattle.layers.specs.Behind.{behind_answer, behind_written}
-use Rattle.layers.specs.Grouping.{group_path, grouping_meaning}
+use Rattle.layers.specs.Grouping.{group_path}
 use Rattle.layers.proofs.Ways.{same_answer, same_written}
 use Rattle.layers.proofs.Eights.{grouping_over}
-use Rattle.layers.specs.Kept.{stored_items}
 use Rattle.layers.proofs.grouping.GroupingPile.way.Goals as goal
-
-pub returns-then-place-items : goal.returns-then-place-items
-returns-then-place-items g c =
-    let p = c.args.self.now in
-    let m : Meaning = g.P.Pile.meaning p.below in
-    let stored : List Digest = stored_items p.stored in
-    let size = ap length c.items-items.ensures.value in
-    record {
-      outcome = sym (way_absent (grouping_meaning g.P.Digester.Hash.digested stored m) c.args.place (length c.args.links.now) (omega (arith, size, length-take (8 * length m.round) stored)));
-      after = refl;
-    }
 
 pub returns : goal.returns
 returns g c =
@@ -28,14 +14,14 @@ returns g c =
     let place : ℕ = c.args.place in
     let links : Way = c.args.links.now in
     let m : Meaning = g.P.Pile.meaning p.below in
-    let stored : List Digest = stored_items p.stored in
+    let stored : List Digest = p.list.items in
     let count : ℕ = c.group_path-count.result in
     let path : Way = c.group_path-count.new.links in
-    let inside : place < length stored = omega (arith, ap length c.items-items.ensures.value) in
+    let inside : place < length stored = omega (arith, ap length c.as_slice-items.ensures.value) in
     let over = grouping_over digested stored m place inside in
     let whole : count - 0 ≡ count = omega arith in
     let front : take (count - 0) path ≡ group_path digested stored place =
-    ap (λ n. take n path) whole ∙ (c.group_path-count.ensures.links ∙ ap (λ xs. group_path digested xs place) c.items-items.ensures.value) in
+    ap (λ n. take n path) whole ∙ (c.group_path-count.ensures.links ∙ ap (λ xs. group_path digested xs place) c.as_slice-items.ensures.value) in
     let answer = c.behind.ensures.outcome ∙ ap (λ ws. behind_answer m ws (place / 8) (length links)) front in
     record {
       outcome = answer ∙ same_answer over (length links);

@@ -1,26 +1,11 @@
-use Rattle.std.proofs.Common.{ℕ, ◌<◌, List, [], ◌∷◌, length, sym, refl, ap, ◌∙◌, arith}
-use Rattle.std.proofs.lemmas.List.{length-take}
+use Rattle.std.proofs.Common.{ℕ, ◌<◌, List, [], ◌∷◌, length, ap, ◌∙◌, arith}
 use Rattle.digest.specs.declared.value.Digest.{Digest}
 use Rattle.tree.specs.declared.link.Side.TheVariants.{Left}
 use Rattle.pile.specs.Meaning.{Meaning, Way}
-use Rattle.pile.proofs.Answered.{way_absent}
 use Rattle.layers.specs.Behind.{behind_answer, behind_written}
-use Rattle.layers.specs.Masking.{masking_meaning}
 use Rattle.layers.proofs.Ways.{same_answer, same_written}
 use Rattle.layers.proofs.UnderMasks.{masking_over}
-use Rattle.layers.specs.Kept.{stored_items}
 use Rattle.layers.proofs.masking.MaskingPile.way.Goals as goal
-
-pub returns-then-place-items : goal.returns-then-place-items
-returns-then-place-items g c =
-    let p = c.args.self.now in
-    let m : Meaning = g.P.Pile.meaning p.below in
-    let stored : List Digest = stored_items p.stored in
-    let size = ap length c.items.ensures.value in
-    record {
-      outcome = sym (way_absent (masking_meaning g.P.Digester.Hash.digested p.seed p.second stored m) c.args.place (length c.args.links.now) (omega (arith, size, length-take (length m.round) stored)));
-      after = refl;
-    }
 
 pub returns : goal.returns
 returns g c =
@@ -28,8 +13,8 @@ returns g c =
     let place : ℕ = c.args.place in
     let links : Way = c.args.links.now in
     let m : Meaning = g.P.Pile.meaning p.below in
-    let stored : List Digest = stored_items p.stored in
-    let inside : place < length stored = omega (arith, ap length c.items.ensures.value) in
+    let stored : List Digest = p.list.items in
+    let inside : place < length stored = omega arith in
     let over = masking_over g.P.Digester.Hash.digested p.seed p.second stored m place inside in
     let first : Digest → Way = λ x. record { side = Left; sibling = x } ∷ [] in
     let answer = c.behind.ensures.outcome ∙ ap (λ x. behind_answer m (first x) place (length links)) c.mask.ensures in
