@@ -3,6 +3,7 @@ ghost use Rattle.std.specs.Prelude.{◌≡◌, replicate};
 
 use crate::value::Digest;
 
+// By hand: a struct with a ghost field has no derive of `Default`.
 impl Default for Digest {
     ghost is_default = { λ d. d.bytes ≡ replicate 32 0 };
 

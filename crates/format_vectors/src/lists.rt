@@ -55,7 +55,7 @@ fn show_roots<R: Roots>(
 fn show_printed<H: Hash>(rt: &HostRuntime, list: &PrintedList, bytes: &[u8]) -> anyhow::Result<()> {
     let blank = Entry {
         second: 0,
-        root: Digest::of([0; 32]),
+        root: Digest::default(),
     };
     let mut entries = [blank; 1800];
     for (place, entry) in entries.iter_mut().enumerate() {

@@ -17,7 +17,7 @@ fn written(
     let links = [blank(); 65];
     let mut buffer = [FILL; 3300];
     let fields = Fields {
-        recorded: Digest::of([0; 32]),
+        recorded: Digest::default(),
         second,
         publication,
         round: &links[0..round.min(65)],
@@ -49,7 +49,7 @@ fn show(rt: &HostRuntime, what: &str, answer: Result<usize, u8>) -> anyhow::Resu
 fn entry(second: u32) -> Entry {
     Entry {
         second,
-        root: Digest::of([0; 32]),
+        root: Digest::default(),
     }
 }
 

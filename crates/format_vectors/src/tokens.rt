@@ -10,7 +10,7 @@ use writer::Fields;
 pub(crate) fn blank() -> Link<Digest> {
     Link {
         side: Side::Right,
-        sibling: Digest::of([0; 32]),
+        sibling: Digest::default(),
     }
 }
 

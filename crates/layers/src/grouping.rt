@@ -34,7 +34,7 @@ impl<P: Pile> Grouping<P> {
 fn blank() -> [Link<Digest>; 3] {
     [Link {
         side: Side::Right,
-        sibling: Digest::of([0; 32]),
+        sibling: Digest::default(),
     }; 3]
 }
 

@@ -3,7 +3,7 @@ ghost use Rattle.std.specs.Prelude.{◌≡◌};
 ghost use Rattle.layers.specs.Masking.{masked};
 
 use arrayvec::ArrayVec;
-use digest::{Digest, Hash, Seed, mask, round_node};
+use digest::{Digest, Hash, ROUND, Seed, mask, node};
 
 // Each item of the list of a second under its mask.
 pub(crate) fn hide<H: Hash>(
@@ -16,7 +16,7 @@ pub(crate) fn hide<H: Hash>(
     let mut hidden = ArrayVec::new();
     for (place, item) in items.iter().enumerate() {
         let over = mask::<H>(seed, second, place as u16);
-        hidden.push(round_node::<H>(&over, item));
+        hidden.push(node::<H, ROUND>(&over, item));
     }
     hidden
 }

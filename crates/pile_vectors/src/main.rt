@@ -24,7 +24,7 @@ fn counted(first: u8) -> [u8; 32] {
 
 // Item i of each round: bytes that count up from 3 * i.
 fn item(i: u32) -> Digest {
-    Digest::of(counted((i.wrapping_mul(3) & 0xff) as u8))
+    Digest::from(counted((i.wrapping_mul(3) & 0xff) as u8))
 }
 
 fn mark(link: &Link<Digest>) -> char {
@@ -65,7 +65,7 @@ impl<P: Pile> Stack<'_, P> {
         let Stack { label, pile, rt } = self;
         let mut links = [Link {
             side: Side::Right,
-            sibling: Digest::of([0; 32]),
+            sibling: Digest::default(),
         }; 16];
         match pile.way(place as usize, &mut links) {
             Ok(count) => {
@@ -144,13 +144,13 @@ fn twice<P: Pile + Drop>(heap: Global, below: P) -> Result<Grouping<Grouping<P>>
 
 // A masking over a pile, with the seed that begins with a byte.
 fn masked<P: Pile + Drop>(heap: Global, below: P, first: u8) -> Result<Masking<P>, AllocError> {
-    Ok(Masking::over(heap, below, Seed::of(counted(first)))?)
+    Ok(Masking::over(heap, below, Seed::from(counted(first)))?)
 }
 
 // Stacks over a head, each over a calendar of its own.
 fn stacks<H: Hash>(rt: &HostRuntime, hash: &str) -> anyhow::Result<()> {
     let heap = rt.alloc();
-    let mut row = [Digest::of([0; 32]); SECONDS];
+    let mut row = [Digest::default(); SECONDS];
     rounds(rt, hash, "head", Head::<H>::over(&mut row))?;
     rounds(
         rt,

@@ -37,7 +37,7 @@ pub(crate) fn entry_of(raw: &[u8; 36]) -> Entry
     root.copy_from_slice(&raw[4..36]);
     Entry {
         second,
-        root: Digest::of(root),
+        root: Digest::from(root),
     }
 }
 

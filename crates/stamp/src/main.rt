@@ -64,7 +64,7 @@ fn close<P: Pile>(pile: &mut P, second: u32, list: &[Digest]) -> anyhow::Result<
 
 // Commits the empty seconds and then the leaves, and answers the calendar.
 fn fill<P: Pile>(pile: &mut P, leaves: &[Digest]) -> anyhow::Result<[Digest; SECONDS]> {
-    let mut calendar = [Digest::of([0; 32]); SECONDS];
+    let mut calendar = [Digest::default(); SECONDS];
     let none = &leaves[0..0];
     for second in 0..SECOND {
         let digest = close(pile, second, none)?;
@@ -181,9 +181,9 @@ fn round<H: Hash>(
     let Some(second) = enter_record::<H>(rt, "starboard", starboard)? else {
         return Ok(0);
     };
-    let mut row = [Digest::of([0; 32]); SECONDS];
+    let mut row = [Digest::default(); SECONDS];
     let grouping = Grouping::over(rt.alloc(), Head::<H>::over(&mut row))?;
-    let pile = Masking::over(rt.alloc(), grouping, Seed::of(SEED))?;
+    let pile = Masking::over(rt.alloc(), grouping, Seed::from(SEED))?;
     serve(rt, pile, first, second, names)?;
     Ok(2)
 }

@@ -9,7 +9,7 @@ use tree::{CalendarNodes, Link, RoundNodes, Side, follow};
 pub(crate) fn blank() -> Link<Digest> {
     Link {
         side: Side::Right,
-        sibling: Digest::of([0; 32]),
+        sibling: Digest::default(),
     }
 }
 

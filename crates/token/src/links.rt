@@ -20,7 +20,7 @@ fn link(raw: &[u8; 33]) -> Link<Digest>
     let sibling = raw[1..].first_chunk().unwrap();
     Link {
         side: side(raw[0]),
-        sibling: Digest::of(*sibling),
+        sibling: Digest::from(*sibling),
     }
 }
 

@@ -41,7 +41,7 @@ impl<'a> Token<'a> {
     pub fn digest(&self) -> Digest
         ensures { result ≡ (content (held self.now)).recorded }
     {
-        Digest::of(*self.recorded)
+        Digest::from(*self.recorded)
     }
 
     pub fn second(&self) -> u32

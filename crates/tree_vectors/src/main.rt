@@ -104,7 +104,7 @@ impl<H: Hash> Tree for Calendars<H> {
 // Node i: bytes that count up from 3 * i.
 fn node(i: u32) -> Digest {
     let first = (i.wrapping_mul(3) & 0xff) as u8;
-    Digest::of(array::from_fn(|k| first.wrapping_add((k & 0xff) as u8)))
+    Digest::from(array::from_fn(|k| first.wrapping_add((k & 0xff) as u8)))
 }
 
 // Adds the links of a node's path to the bytes, and answers whether they lead from it to the root.

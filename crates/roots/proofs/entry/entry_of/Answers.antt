@@ -11,5 +11,5 @@ pub returns : goal.returns
 unfolding made
 returns c =
     let raw = c.args.raw.now in
-    let bytes : c.of.result.bytes ≡ take 32 (drop 4 raw) = c.of.ensures ∙ c.copy_from_slice.ensures.after in
-    ap₂ made c.second-second.ensures (sym (digest_is c.of.result (drop 4 raw) bytes))
+    let bytes : c.from.result.bytes ≡ take 32 (drop 4 raw) = c.from.ensures ∙ c.copy_from_slice.ensures.after in
+    ap₂ made c.second-second.ensures (sym (digest_is c.from.result (drop 4 raw) bytes))

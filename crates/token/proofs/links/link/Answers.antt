@@ -16,4 +16,4 @@ unfolding made
 returns c =
     let raw : List ℕ = c.args.raw.now in
     let first = rw c.unwrap-sibling.ensures at c.first_chunk.ensures.cases in
-    ap₂ made c.side.ensures (sym (digest_is c.of.result (drop 1 raw) (c.of.ensures ∙ first.same ∙ same_front (drop 1 raw))))
+    ap₂ made c.side.ensures (sym (digest_is c.from.result (drop 1 raw) (c.from.ensures ∙ first.same ∙ same_front (drop 1 raw))))

@@ -5,6 +5,6 @@ use Rattle.token.proofs.token.Token.digest.Goals as goal
 
 pub returns : goal.returns
 returns c =
-    let d = c.of.result in
+    let d = c.from.result in
     let xs = c.args.self.now.recorded.now in
-    sym (digest_is d xs (c.of.ensures ∙ sym (take_all 32 xs (omega (arith, d.whole, ap length c.of.ensures)))))
+    sym (digest_is d xs (c.from.ensures ∙ sym (take_all 32 xs (omega (arith, d.whole, ap length c.from.ensures)))))
