@@ -1,3 +1,4 @@
 pub mod Blocks
 pub mod Hexadecimal
 pub mod SameDigest
+pub mod TwoParts

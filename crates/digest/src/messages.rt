@@ -1,7 +1,7 @@
 // The digests of the tagged messages, over any hash. None is above 65 bytes, so no hash refuses one.
 ghost use Rattle.std.specs.Prelude.{◌≡◌, ◌+◌, ◌≤◌, ◌∷◌, ◌++◌, length, take};
 ghost use Rattle.digest.specs.Hashes.{longest};
-ghost use Rattle.digest.specs.Messages.{leaf_message, node_message, empty_message, mask_message};
+ghost use Rattle.digest.specs.Messages.{two_bytes, four_bytes, leaf_message, node_message, empty_message, mask_message};
 
 use crate::hash::Hash;
 use crate::seed::Seed;
@@ -30,35 +30,32 @@ fn of_short<H: Hash>(message: &[u8]) -> Digest
     }
 }
 
-// Writes a part into a message from a place on, and answers the place behind it.
-fn append(message: &mut [u8], at: usize, part: &[u8]) -> usize
-    requires { at + length part.now ≤ length message.old }
-    ensures end { result ≡ at + length part.now }
-    ensures front { take result message.new ≡ take at message.old ++ part.now }
-{
-    let end = at + part.len();
-    message[at..end].copy_from_slice(part);
-    end
-}
-
 // A tag and two digests behind it.
 fn joined(tag: u8, left: &Digest, right: &Digest) -> [u8; 65]
     ensures { result ≡ node_message tag left.now right.now }
 {
     let mut message = [tag; 65];
-    let middle = append(&mut message, 1, left.as_bytes());
-    let _ = append(&mut message, middle, right.as_bytes());
+    message[1..33].copy_from_slice(left.as_bytes());
+    message[33..].copy_from_slice(right.as_bytes());
     message
 }
 
-// The mask's tag, and behind it the seed, the second in four bytes and the place in two.
+// The second in four bytes, and behind it the place in two.
+fn placed(second: u32, place: u16) -> [u8; 6]
+    ensures { result ≡ four_bytes second ++ two_bytes place }
+{
+    let [a, b, c, d] = second.to_be_bytes();
+    let [e, f] = place.to_be_bytes();
+    [a, b, c, d, e, f]
+}
+
+// The mask's tag, and behind it the seed, the second and the place.
 fn masked(seed: &Seed, second: u32, place: u16) -> [u8; 39]
     ensures { result ≡ mask_message seed.now second place }
 {
     let mut message = [MASK; 39];
-    let at = append(&mut message, 1, seed.as_bytes());
-    let at = append(&mut message, at, &second.to_be_bytes());
-    let _ = append(&mut message, at, &place.to_be_bytes());
+    message[1..33].copy_from_slice(seed.as_bytes());
+    message[33..].copy_from_slice(&placed(second, place));
     message
 }
 
