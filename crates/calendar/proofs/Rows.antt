@@ -1,5 +1,5 @@
 -- Rows: what a place answers, and what a publication closes.
-use Rattle.std.proofs.Common.{◌≡◌, ℕ, zero, suc, ◌+◌, ◌-◌, ◌^◌, ◌<◌, ◌≤◌, ◌&&◌, ltb, List, [], ◌∷◌, ◌++◌, length, get_or, take, Some, None, ap, ◌∙◌, arith}
+use Rattle.std.proofs.Common.{◌≡◌, ℕ, zero, suc, ◌+◌, ◌-◌, ◌^◌, ◌<◌, ◌≤◌, ◌&&◌, ltb, List, [], ◌∷◌, ◌++◌, length, get_or, take, Option, Some, None, IsSome, refl, ap, ◌∙◌, arith}
 use Rattle.std.proofs.lemmas.List.Edits.{between_none, between_more}
 use Rattle.std.proofs.lemmas.Bool.{cond-true, cond-false, lt-ltb, le-ltb, and_from, and_left, and_right}
 use Rattle.std.specs.List.{between, slice_get}
@@ -42,6 +42,7 @@ module _ {N : Type 0} where
   published_late p row late = cond-false (ltb p (length row) && ltb p (2 ^ 31)) _ _ (and_right _ _ (le-ltb p (2 ^ 31) late))
 
   -- nodes have a root
-  pub some_root : (join : N → N → N) (xs : List N) → 1 ≤ length xs → root join xs ≡ None → ⊥
-  some_root join [] h e = omega arith
-  some_root join (x ∷ xs) h e = let z : ◌≡◌ {A = ℕ} 0 1 = cc in omega arith
+  pub some_root : (join : N → N → N) (xs : List N) (r : Option N) → 1 ≤ length xs → root join xs ≡ r → IsSome r
+  some_root join [] r h e = absurd (omega arith)
+  some_root join (x ∷ xs) None h e = let z : ◌≡◌ {A = ℕ} 0 1 = cc in absurd (omega arith)
+  some_root join (x ∷ xs) (Some y) h e = refl

@@ -19,28 +19,11 @@ pub(crate) fn range_root<J: Joining, R: Row<Node = J::Node>>(
     ensures there { end ≤ length (R.Row.row row.now) → root J.Joining.joined (between low end (R.Row.row row.now)) ≡ result }
     ensures short { length (R.Row.row row.now) < end → result ≡ None }
 {
-    let Some(first) = row.at(low) else {
-        return None;
-    };
-    let mut forest = planted::<J>(first);
+    let mut forest = planted::<J>(row.at(low)?);
     for place in low + 1..end {
-        let Some(node) = row.at(place) else {
-            return None;
-        };
-        feed::<J>(&mut forest, node);
+        feed::<J>(&mut forest, row.at(place)?);
     }
     Some(whole::<J>(&forest))
-}
-
-// The root of the places `low` to `end` - 1, which the row has.
-pub(crate) fn part_root<J: Joining, R: Row<Node = J::Node>>(row: &R, low: u32, end: u32) -> J::Node
-    requires { (low < end) × (end ≤ low + 2 ^ 31) × (end ≤ length (R.Row.row row.now)) }
-    ensures { root J.Joining.joined (between low end (R.Row.row row.now)) ≡ Some result }
-{
-    match range_root::<J, R>(row, low, end) {
-        Some(root) => root,
-        None => unreachable(),
-    }
 }
 
 // The root of the calendar that a publication closes; none where the publication is not there.

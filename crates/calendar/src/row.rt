@@ -48,11 +48,6 @@ impl<'a, N: Small> Row for Slice<'a, N> {
     ghost row = { λ s. s.nodes.now };
 
     fn at(&self, place: u32) -> Option<N> {
-        let place = place as usize;
-        if place < self.nodes.len() {
-            Some(self.nodes[place])
-        } else {
-            None
-        }
+        self.nodes.get(place as usize).copied()
     }
 }

@@ -17,4 +17,4 @@ pub use joining::{CalendarNodes, Joining, Nodes, RoundNodes};
 pub use link::{Link, Side, UnknownSide};
 pub use parting::split;
 pub use refusal::PathRefusal;
-pub use shapes::{has_shape, sides};
+pub use shapes::{has_shape, sides, sides_of};

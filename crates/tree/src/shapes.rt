@@ -8,7 +8,7 @@ use crate::descent::Siblings;
 use crate::link::Side;
 
 // How many sides a place has among n leaves.
-pub(crate) fn sides_of(n: usize, place: usize) -> usize
+pub fn sides_of(n: usize, place: usize) -> usize
     ensures { result ≡ length (shape n place) }
 {
     Siblings::new(n, place).count()

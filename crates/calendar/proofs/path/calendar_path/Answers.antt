@@ -1,56 +1,40 @@
-use Rattle.std.proofs.Common.{ℕ, length, refl}
-use Rattle.calendar.proofs.PathAnswers.{sides_some, no_sides, row_short, links_short, links_enough}
+use Rattle.std.proofs.Common.{◌≡◌, ℕ, ◌<◌, ok_or, Option, Some, None, Err, length, ap, sym, ◌∙◌, arith}
+use Rattle.std.proofs.lemmas.Result.{err_from_is_err_and}
+use Rattle.calendar.proofs.PathAnswers.{row_short, links_short, links_enough}
 use Rattle.calendar.proofs.Rows.{nth_none, nth_some}
 use Rattle.calendar.proofs.path.calendar_path.Goals as goal
 
-pub returns-in_default : goal.returns-in_default
-returns-in_default g c =
-    record {
-      answer =
-          no_sides c.args.publication c.args.second (length c.args.links.now) (g.R.Row.row c.args.row.now) c.in_default.ensures.answer;
-      links = refl;
-    }
+-- the error of `ok_or`
+given : {A E : Type 0} (o : Option A) (e f : E) → Err f ≡ ok_or o e → f ≡ e
+given None e f is = cc
+given (Some x) e f is = let z : ◌≡◌ {A = ℕ} 0 1 = cc in absurd (omega arith)
 
-pub returns-in_default-at : goal.returns-in_default-at
-returns-in_default-at g c =
+pub returns-in_err-ok_or-clause-answer : goal.returns-in_err-ok_or-clause-answer
+returns-in_err-ok_or-clause-answer g c =
     let p : ℕ = c.args.publication in
     let row = g.R.Row.row c.args.row.now in
-    record {
-      answer = row_short p c.args.second (length c.args.links.now) row (nth_none row p c.in_default-at.ensures);
-      links = refl;
-    }
+    let r = err_from_is_err_and c.from_residual.result c.from_residual.ensures.1 in
+    r.1 ∙ (ap Err (r.2 ∙ given c.at.result _ _ c.in_err-ok_or.ensures.value)
+    ∙ row_short p c.args.second (length c.args.links.now) row (nth_none row p (sym c.in_err-ok_or.ensures.ok_part ∙ c.at.ensures)))
 
-pub returns-then-links-count : goal.returns-then-links-count
-returns-then-links-count g c =
+pub returns-then-links-count-clause-answer : goal.returns-then-links-count-clause-answer
+returns-then-links-count-clause-answer g c =
     let p : ℕ = c.args.publication in
     let row = g.R.Row.row c.args.row.now in
-    let s = sides_some p c.args.second c.in-Some.count c.in-Some.ensures.answer in
-    let there = (nth_some row p c.in-Some-at.field-0 c.in-Some-at.ensures).0 in
-    record {
-      answer =
-          links_short p c.args.second (length c.args.links.now) row there s.0 s.1 c.in-Some.count s.2 c.if-links-count.true;
-      links = refl;
-    }
+    let there : p < length row = (nth_some row p c.in_ok-ok_or.field-0 (sym c.in_ok-ok_or.ensures.ok_part ∙ c.at.ensures)).0 in
+    links_short p c.args.second (length c.args.links.now) row there (omega arith) (omega arith) c.sides_of-count.result
+    c.sides_of-count.ensures c.if-links-count.true
 
-pub write_path-requires : goal.write_path-requires
-write_path-requires g c =
+pub write_path-requires-clause-there : goal.write_path-requires-clause-there
+write_path-requires-clause-there g c =
+    let row = g.R.Row.row c.args.row.now in
+    let there : c.args.publication < length row = (nth_some row c.args.publication c.in_ok-ok_or.field-0 (sym c.in_ok-ok_or.ensures.ok_part ∙ c.at.ensures)).0 in
+    (omega arith, omega arith, there)
+
+pub returns-clause-answer : goal.returns-clause-answer
+returns-clause-answer g c =
     let p : ℕ = c.args.publication in
     let row = g.R.Row.row c.args.row.now in
-    let s = sides_some p c.args.second c.in-Some.count c.in-Some.ensures.answer in
-    let there = (nth_some row p c.in-Some-at.field-0 c.in-Some-at.ensures).0 in
-    record {
-      there = (s.1, s.0, there);
-      room = (s.2, c.if-links-count.false);
-    }
-
-pub returns : goal.returns
-returns g c =
-    let p : ℕ = c.args.publication in
-    let row = g.R.Row.row c.args.row.now in
-    let s = sides_some p c.args.second c.in-Some.count c.in-Some.ensures.answer in
-    let there = (nth_some row p c.in-Some-at.field-0 c.in-Some-at.ensures).0 in
-    record {
-      answer =
-          links_enough p c.args.second (length c.args.links.now) row there s.0 s.1 c.in-Some.count s.2 c.if-links-count.false;
-      links = c.write_path.ensures;
-    }
+    let there : p < length row = (nth_some row p c.in_ok-ok_or.field-0 (sym c.in_ok-ok_or.ensures.ok_part ∙ c.at.ensures)).0 in
+    links_enough p c.args.second (length c.args.links.now) row there (omega arith) (omega arith) c.sides_of-count.result
+    c.sides_of-count.ensures c.if-links-count.false

@@ -1,50 +1,32 @@
-use Rattle.std.proofs.Common.{◌+◌, sym, ap, ◌∙◌, arith}
+use Rattle.std.proofs.Common.{ℕ, ◌+◌, ap, sym, ◌∙◌, arith}
 use Rattle.tree.specs.Answers.{path_over}
-use Rattle.tree.specs.Trees.{path}
-use Rattle.calendar.proofs.Descents.{descent_none, descent_parts, descent_some, descent_left, descent_right, descent_all}
+use Rattle.tree.specs.Trees.{siblings, path}
+use Rattle.tree.proofs.Ways.{writing_none, writing_next, writing_more, writing_all, path_is_upward, link_is}
 use Rattle.calendar.proofs.Rows.{published_there}
 use Rattle.calendar.proofs.path.write_path.Goals as goal
 
-pub loop-k-init : goal.loop-k-init
-loop-k-init g c =
-    descent_none g.J.Joining.joined (g.R.Row.row c.args.row.now) c.args.second (c.args.publication + 1) c.args.links.now c.args.count
-    (omega (arith, c.requires.there.0)) (omega (arith, c.requires.there.2)) (omega (arith, c.requires.there.1)) c.requires.room.1 c.requires.room.0
+pub loop-sibling-init : goal.loop-sibling-init
+loop-sibling-init g c =
+    let join = g.J.Joining.joined in
+    let row = g.R.Row.row c.args.row.now in
+    let p : ℕ = c.args.publication in
+    let second : ℕ = c.args.second in
+    let closed = published_there p row c.requires.there.2 c.requires.there.1 in
+    writing_none _ (p + 1) second _ _ c.args.links.now _
+    (ap (λ way. siblings way.low way.end way.place) c.into_iter-sibling-iterator.ensures.into_iter_gives ∙ c.new-sibling-items.ensures.way)
+    c.requires.room.0 c.requires.room.1
+    (λ d. sym (ap (λ p. path_over p c.args.links.now) (ap (λ xs. path join xs second) closed ∙ path_is_upward join row (p + 1) second d (omega (arith, c.requires.there.0)) (omega (arith, c.requires.there.2)))))
 
-pub overflow_add-middle : goal.overflow_add-middle
-overflow_add-middle g c =
-    omega (arith, (descent_parts g.J.Joining.joined c.loop-k.invariant c.in-Some.k c.in-Some.ensures.value).1, c.loop-k.invariant.early)
+pub link_to-requires : goal.link_to-requires
+link_to-requires g c =
+    let next = writing_next c.loop-sibling.invariant c.in-Some.sibling _ c.in-Some.ensures.steps in
+    (next.1, omega (arith, next.2, c.requires.there.1), omega (arith, next.2, c.requires.there.2))
 
-pub last_link-requires : goal.last_link-requires
-last_link-requires g c =
-    let both = descent_parts g.J.Joining.joined c.loop-k.invariant c.in-Some.k c.in-Some.ensures.value in
-    (omega (arith, both.0), both.1, omega (arith, c.loop-k.invariant.early), c.loop-k.invariant.there)
-
-pub overflow_sub-left : goal.overflow_sub-left
-overflow_sub-left g c = descent_some g.J.Joining.joined c.loop-k.invariant c.in-Some.k c.in-Some.ensures.value
-
-pub bounds-links-left : goal.bounds-links-left
-bounds-links-left g c =
-    omega (
-      arith,
-      descent_some g.J.Joining.joined c.loop-k.invariant c.in-Some.k c.in-Some.ensures.value,
-      c.loop-k.invariant.counted,
-      c.requires.room.1,
-      c.loop-k.auto.links,
-    )
-
-pub loop-k-preserved-then-second-middle : goal.loop-k-preserved-then-second-middle
-loop-k-preserved-then-second-middle g c =
-    let h = c.if-second-middle.true in
-    descent_left g.J.Joining.joined c.loop-k.invariant c.in-Some.k c.in-Some.ensures.value c.last_link.result h (c.last_link.ensures.in_left h)
-
-pub loop-k-preserved : goal.loop-k-preserved
-loop-k-preserved g c =
-    let h = c.if-second-middle.false in
-    descent_right g.J.Joining.joined c.loop-k.invariant c.in-Some.k c.in-Some.ensures.value c.last_link.result h (c.last_link.ensures.in_right h)
+pub loop-sibling-preserved : goal.loop-sibling-preserved
+loop-sibling-preserved g c =
+    let next = writing_next c.loop-sibling.invariant c.in-Some.sibling _ c.in-Some.ensures.steps in
+    writing_more c.loop-sibling.invariant c.in-Some.sibling _ c.in-Some.ensures.steps _
+    (λ d. link_is g.J.Joining.joined (g.R.Row.row c.args.row.now) d c.in-Some.sibling c.link_to.result next.1 (omega (arith, next.2, c.requires.there.2)) c.link_to.ensures.side c.link_to.ensures.below)
 
 pub returns : goal.returns
-returns g c =
-    let join = g.J.Joining.joined in
-    let there = published_there c.args.publication (g.R.Row.row c.args.row.now) c.requires.there.2 c.requires.there.1 in
-    descent_all join c.loop-k.invariant c.in_default.ensures.value
-    ∙ ap (λ xs. path_over (path join xs c.args.second) c.args.links.now) (sym there)
+returns g c = writing_all c.loop-sibling.invariant c.in-None.ensures.steps.0 (g.R.Row.row c.args.row.now) (omega (arith, c.requires.there.2))

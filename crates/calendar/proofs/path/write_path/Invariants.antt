@@ -1,12 +1,13 @@
-use Rattle.std.proofs.Common.{◌-◌}
-use Rattle.std.specs.List.{between}
-use Rattle.calendar.proofs.Descents.{Descent}
+use Rattle.std.proofs.Common.{◌+◌}
+use Rattle.calendar.specs.Published.{published}
+use Rattle.tree.specs.Answers.{path_over}
+use Rattle.tree.specs.Trees.{path, siblings}
+use Rattle.tree.proofs.Ways.{Writing, link_over}
 use Rattle.calendar.proofs.path.write_path.Given as goal
 
-abbrev pub invariant-loop-k : goal.invariant-loop-k
-invariant-loop-k g l =
-    Descent g.J.Joining.joined (g.R.Row.row l.row) (between 0 l.initial.end (g.R.Row.row l.row)) l.second l.low l.end
-    l.initial.links l.links l.left l.initial.left
-
-abbrev pub decreases-loop-k : goal.decreases-loop-k
-decreases-loop-k g l = l.end - l.low
+abbrev pub invariant-loop-sibling : goal.invariant-loop-sibling
+invariant-loop-sibling g l =
+    let way = l.sibling-iterator in
+    let row = g.R.Row.row l.row in
+    Writing (link_over g.J.Joining.joined row) (l.publication + 1) (siblings way.low way.end way.place) l.left l.links
+    (path_over (path g.J.Joining.joined (published l.publication row) l.second) l.fn.links)

@@ -1,4 +1,4 @@
-use Rattle.std.proofs.Common.{ℕ, sym, refl, subst, arith}
+use Rattle.std.proofs.Common.{ℕ, sym, subst, arith}
 use Rattle.std.proofs.lemmas.List.Edits.{length-between}
 use Rattle.std.specs.List.{between}
 use Rattle.calendar.specs.Forests.{Holds}
@@ -9,27 +9,27 @@ use Rattle.calendar.proofs.range.range_root.Goals as goal
 pub planted-forest-requires : goal.planted-forest-requires
 planted-forest-requires g c = forest_size g.row.J-Node g.met.J.Node.Small.small
 
-pub returns-in_default : goal.returns-in_default
-returns-in_default g c =
+pub returns-in_err-at : goal.returns-in_err-at
+returns-in_err-at g c =
     record {
-      there = λ h. absurd (omega (arith, nth_none (g.R.Row.row c.args.row.now) c.args.low c.in_default.ensures));
-      short = λ _. refl;
+      there = λ h. absurd (omega (arith, nth_none (g.R.Row.row c.args.row.now) c.args.low c.in_err-at.ensures));
+      short = λ _. c.from_residual.ensures;
     }
 
 pub loop-place-init : goal.loop-place-init
 loop-place-init g c =
     let row = g.R.Row.row c.args.row.now in
-    let forest = c.planted-forest.result in
-    let at = c.in-Some.ensures in (
-      subst (Holds g.J.Joining.joined forest) (sym (range_first row c.args.low c.in-Some.first at)) c.planted-forest.ensures,
-      omega (arith, (nth_some row c.args.low c.in-Some.first at).0),
+    let first = c.in_ok-at.field-0 in
+    let at = c.in_ok-at.ensures in (
+      subst (Holds g.J.Joining.joined c.planted-forest.result) (sym (range_first row c.args.low first at)) c.planted-forest.ensures,
+      omega (arith, (nth_some row c.args.low first at).0),
     )
 
-pub returns-in_default-at : goal.returns-in_default-at
-returns-in_default-at g c =
+pub returns-in_err-at-2 : goal.returns-in_err-at-2
+returns-in_err-at-2 g c =
     record {
-      there = λ h. absurd (omega (arith, nth_none (g.R.Row.row c.args.row.now) c.loop-place.place c.in_default-at.ensures));
-      short = λ _. refl;
+      there = λ h. absurd (omega (arith, nth_none (g.R.Row.row c.args.row.now) c.loop-place.place c.in_err-at-2.ensures));
+      short = λ _. c.from_residual-in_err-at-2.ensures;
     }
 
 pub feed-requires : goal.feed-requires
@@ -44,13 +44,12 @@ feed-requires g c =
 pub loop-place-preserved : goal.loop-place-preserved
 loop-place-preserved g c =
     let row = g.R.Row.row c.args.row.now in
-    let forest = c.feed.new.forest in
     let place : ℕ = c.loop-place.place in
-    let at = c.in-Some-at.ensures in (
-      subst (Holds g.J.Joining.joined forest)
-          (sym (range_more row c.args.low place c.in-Some-at.node (omega arith) at))
+    let at = c.in_ok-at-2.ensures in (
+      subst (Holds g.J.Joining.joined c.feed.new.forest)
+          (sym (range_more row c.args.low place c.in_ok-at-2.field-0 (omega arith) at))
           (c.feed.ensures (between c.args.low place row) c.loop-place.invariant.0),
-      omega (arith, (nth_some row place c.in-Some-at.node at).0),
+      omega (arith, (nth_some row place c.in_ok-at-2.field-0 at).0),
     )
 
 pub whole-requires : goal.whole-requires
