@@ -1,29 +1,28 @@
 // What loading a printed list answers, what it holds, and what printing it leaves.
-use crate::buffer::{FILL, begins, staying};
-use anyhow::anyhow;
-use digest::{Digest, Hash};
+use crate::buffer::{FILL, staying};
+use crate::cases::Case;
+use anyhow::{anyhow, ensure};
+use digest::Hash;
 use roots::{Entry, Holder, PrintedList, Roots, print_list};
-
-// The seconds that are looked up: the list's ends and middle, and seconds that it cannot have.
-fn asked(list: &PrintedList) -> [Option<u32>; 7] {
-    let mut seconds = [None; 7];
-    seconds[0] = Some(0);
-    seconds[1] = second_at(list, 0);
-    seconds[2] = second_at(list, list.count() / 2);
-    seconds[3] = second_at(list, list.count().saturating_sub(1));
-    if let Some(last) = seconds[3] {
-        seconds[4] = last.checked_add(1);
-    }
-    seconds[5] = Some(0x7fff_ffff);
-    seconds[6] = Some(u32::MAX);
-    seconds
-}
+use std::alloc::{AllocError, Global};
 
 fn second_at(list: &PrintedList, place: usize) -> Option<u32> {
-    match list.entry(place) {
-        Some(entry) => Some(entry.second),
-        None => None,
-    }
+    list.entry(place).map(|entry| entry.second)
+}
+
+// The seconds that are looked up: the list's ends and middle, and seconds that it cannot have.
+fn asked(heap: Global, list: &PrintedList) -> Result<Vec<u32>, AllocError> {
+    let last = second_at(list, list.count().saturating_sub(1));
+    let seconds = [
+        Some(0),
+        second_at(list, 0),
+        second_at(list, list.count() / 2),
+        last,
+        last.and_then(|last| last.checked_add(1)),
+        Some(0x7fff_ffff),
+        Some(u32::MAX),
+    ];
+    seconds.into_iter().flatten().collect(heap)
 }
 
 // Looks up a second.
@@ -36,16 +35,10 @@ fn show_root<R: Roots>(rt: &HostRuntime, roots: &R, second: u32) -> anyhow::Resu
 }
 
 // Looks up each of these seconds once.
-fn show_roots<R: Roots>(
-    rt: &HostRuntime,
-    roots: &R,
-    seconds: &[Option<u32>],
-) -> anyhow::Result<()> {
+fn show_roots<R: Roots>(rt: &HostRuntime, roots: &R, seconds: &[u32]) -> anyhow::Result<()> {
     for (place, second) in seconds.iter().enumerate() {
-        if let Some(second) = second {
-            if !seconds[0..place].contains(&Some(*second)) {
-                show_root(rt, roots, *second)?;
-            }
+        if !seconds[..place].contains(second) {
+            show_root(rt, roots, *second)?;
         }
     }
     Ok(())
@@ -53,22 +46,17 @@ fn show_roots<R: Roots>(
 
 // Prints the list again, and tells how many bytes behind it stay.
 fn show_printed<H: Hash>(rt: &HostRuntime, list: &PrintedList, bytes: &[u8]) -> anyhow::Result<()> {
-    let blank = Entry {
-        second: 0,
-        root: Digest::default(),
-    };
-    let mut entries = [blank; 1800];
-    for (place, entry) in entries.iter_mut().enumerate() {
-        *entry = list.entry(place).unwrap_or(blank);
-    }
+    let entries: Vec<Entry> = (0..list.count())
+        .filter_map(|place| list.entry(place))
+        .collect(rt.alloc())?;
     let mut buffer = [FILL; 65000];
-    let count = list.count().min(1800);
-    let Ok(length) = print_list::<H>(&entries[0..count], &mut buffer) else {
-        return Err(anyhow!("a list that was loaded is not printed"));
-    };
-    if !begins(&buffer, bytes) {
-        return Err(anyhow!("a list is printed as other bytes"));
-    }
+    let length = print_list::<H>(entries.as_slice(), &mut buffer).map_err(|_| anyhow!(
+        "a list that was loaded is not printed"
+    ))?;
+    ensure!(
+        buffer.starts_with(bytes),
+        "a list is printed as other bytes"
+    );
     let behind = staying(&buffer, length);
     println!(rt; "  printed {length}, {behind} bytes behind stay")?;
     Ok(())
@@ -78,10 +66,10 @@ fn show_printed<H: Hash>(rt: &HostRuntime, list: &PrintedList, bytes: &[u8]) -> 
 pub(crate) fn list_case<'a, H: Hash>(
     rt: &HostRuntime,
     holder: &mut Holder<'a, H>,
-    name: &str,
-    bytes: &'a [u8],
+    case: Case<'a>,
 ) -> anyhow::Result<()> {
-    if let Err(fault) = holder.load(bytes) {
+    let name = case.name;
+    if let Err(fault) = holder.load(case.bytes) {
         let report = fault.report();
         let number = report.number;
         let layer = report.layer;
@@ -93,6 +81,6 @@ pub(crate) fn list_case<'a, H: Hash>(
     let list = holder.list();
     let count = list.count();
     println!(rt; "{name}: loaded {count}")?;
-    show_roots(rt, holder, &asked(&list))?;
-    show_printed::<H>(rt, &list, bytes)
+    show_roots(rt, holder, asked(rt.alloc(), &list)?.as_slice())?;
+    show_printed::<H>(rt, &list, case.bytes)
 }

@@ -9,7 +9,7 @@ mod lists;
 mod refusals;
 mod tokens;
 
-use cases::take_case;
+use cases::{Case, Cases, Under};
 use lists::list_case;
 use refusals::show_refusals;
 use roots::Holder;
@@ -18,49 +18,46 @@ use sha256::Sha256;
 use std::fs;
 use tokens::token_case;
 
-// Runs the cases of tokens, and answers how many there are.
-fn run_tokens(rt: &HostRuntime, all: &[u8]) -> anyhow::Result<u64> {
-    println!(rt; "tokens")?;
-    let mut rest = all;
-    for count in 0..u64::MAX {
-        let Some((case, behind)) = take_case(rest) else {
-            return Ok(count);
-        };
-        if case.number == 1 {
-            token_case::<Sha256>(rt, case.name, case.bytes)?;
-        } else {
-            token_case::<Sha3>(rt, case.name, case.bytes)?;
-        }
-        rest = behind;
+// Runs each case of a file under a title, and answers how many there are.
+fn run_cases<'a, F: FnMut(Case<'a>) -> anyhow::Result<()>>(
+    rt: &HostRuntime,
+    title: &str,
+    all: &'a [u8],
+    mut run: F,
+) -> anyhow::Result<u64>
+    requires { F.IsAlwaysCallable run }
+{
+    println!(rt; "{title}")?;
+    let mut count = 0u64;
+    for case in Cases::of(all) {
+        run(case)?;
+        count = count.saturating_add(1);
     }
-    Ok(u64::MAX)
+    Ok(count)
 }
 
-// Runs the cases of lists, with a holder for each hash, and answers how many there are.
-fn run_lists(rt: &HostRuntime, all: &[u8]) -> anyhow::Result<u64> {
-    println!(rt; "lists")?;
+fn run_tokens(rt: &HostRuntime) -> anyhow::Result<u64> {
+    let all = fs::read(rt, "tokens.cases")?;
+    run_cases(rt, "tokens", all.as_slice(), |case| match case.under {
+        Under::Sha256 => token_case::<Sha256>(rt, case),
+        Under::Sha3 => token_case::<Sha3>(rt, case),
+    })
+}
+
+// A holder for each hash keeps its list from case to case.
+fn run_lists(rt: &HostRuntime) -> anyhow::Result<u64> {
+    let all = fs::read(rt, "lists.cases")?;
     let mut first = Holder::<Sha256>::empty();
     let mut second = Holder::<Sha3>::empty();
-    let mut rest = all;
-    for count in 0..u64::MAX {
-        let Some((case, behind)) = take_case(rest) else {
-            return Ok(count);
-        };
-        if case.number == 1 {
-            list_case(rt, &mut first, case.name, case.bytes)?;
-        } else {
-            list_case(rt, &mut second, case.name, case.bytes)?;
-        }
-        rest = behind;
-    }
-    Ok(u64::MAX)
+    run_cases(rt, "lists", all.as_slice(), |case| match case.under {
+        Under::Sha256 => list_case(rt, &mut first, case),
+        Under::Sha3 => list_case(rt, &mut second, case),
+    })
 }
 
 fn run(rt: &HostRuntime) -> anyhow::Result<()> {
-    let all = fs::read(rt, "tokens.cases")?;
-    let tokens = run_tokens(rt, all.as_slice())?;
-    let all = fs::read(rt, "lists.cases")?;
-    let lists = run_lists(rt, all.as_slice())?;
+    let tokens = run_tokens(rt)?;
+    let lists = run_lists(rt)?;
     show_refusals(rt)?;
     println!(rt; "done: {tokens} token cases, {lists} list cases")?;
     Ok(())

@@ -2,44 +2,66 @@
 use crate::buffer::FILL;
 use crate::tokens::blank;
 use digest::Digest;
-use roots::{Entry, print_list};
+use roots::{Entry, PrintRefusal, print_list};
 use sha256::Sha256;
+use std::array;
+use token::WriteRefusal;
 use writer::Fields;
 
-// Writes a token with so many links into so many bytes: its length, or the number of a refusal.
+// What one of the writers refuses.
+#[derive(Clone, Copy)]
+enum Refusal {
+    Write(WriteRefusal),
+    Print(PrintRefusal),
+}
+
+impl Refusal {
+    fn number(self) -> u8 {
+        match self {
+            Refusal::Write(refusal) => refusal.number(),
+            Refusal::Print(refusal) => refusal.number(),
+        }
+    }
+}
+
+impl From<WriteRefusal> for Refusal {
+    fn from(refusal: WriteRefusal) -> Refusal {
+        Refusal::Write(refusal)
+    }
+}
+
+impl From<PrintRefusal> for Refusal {
+    fn from(refusal: PrintRefusal) -> Refusal {
+        Refusal::Print(refusal)
+    }
+}
+
+// Writes a token with so many links into so many bytes, and answers its length.
 fn written(
-    round: usize,
-    calendar: usize,
-    second: u32,
-    publication: u32,
+    (round, calendar): (usize, usize),
+    (second, publication): (u32, u32),
     room: usize,
-) -> Result<usize, u8> {
+) -> Result<usize, Refusal> {
     let links = [blank(); 65];
     let mut buffer = [FILL; 3300];
     let fields = Fields {
         recorded: Digest::default(),
         second,
         publication,
-        round: &links[0..round.min(65)],
-        calendar: &links[0..calendar.min(65)],
+        round: &links[..round.min(65)],
+        calendar: &links[..calendar.min(65)],
     };
-    match fields.write::<Sha256>(&mut buffer[0..room.min(3300)]) {
-        Ok(length) => Ok(length),
-        Err(refusal) => Err(refusal.number()),
-    }
+    Ok(fields.write::<Sha256>(&mut buffer[..room.min(3300)])?)
 }
 
-// Prints entries into so many bytes: the list's length, or the number of a refusal.
-fn printed(entries: &[Entry], room: usize) -> Result<usize, u8> {
+// Prints entries into so many bytes, and answers the list's length.
+fn printed(entries: &[Entry], room: usize) -> Result<usize, Refusal> {
     let mut buffer = [FILL; 65000];
-    match print_list::<Sha256>(entries, &mut buffer[0..room.min(65000)]) {
-        Ok(length) => Ok(length),
-        Err(refusal) => Err(refusal.number()),
-    }
+    Ok(print_list::<Sha256>(entries, &mut buffer[..room.min(65000)])?)
 }
 
-fn show(rt: &HostRuntime, what: &str, answer: Result<usize, u8>) -> anyhow::Result<()> {
-    match answer {
+fn show(rt: &HostRuntime, what: &str, answer: Result<usize, Refusal>) -> anyhow::Result<()> {
+    match answer.map_err(Refusal::number) {
         Ok(length) => println!(rt; "{what}: {length}")?,
         Err(number) => println!(rt; "{what}: refused {number}")?,
     }
@@ -55,35 +77,22 @@ fn entry(second: u32) -> Entry {
 
 // One entry more than a list takes, at seconds that rise.
 fn many() -> [Entry; 1801] {
-    let mut entries = [entry(0); 1801];
-    for (second, place) in entries.iter_mut().enumerate() {
-        place.second = second as u32;
-    }
-    entries
+    array::from_fn(|second| entry((second & 0xffff) as u32))
 }
 
 pub(crate) fn show_refusals(rt: &HostRuntime) -> anyhow::Result<()> {
     println!(rt; "refusals")?;
-    show(rt, "write round 65", written(65, 0, 0, 0, 3300))?;
-    show(rt, "write calendar 32", written(0, 32, 0, 0, 3300))?;
-    show(
-        rt,
-        "write publication 2147483648",
-        written(0, 0, 0, 0x8000_0000, 3300),
-    )?;
-    show(
-        rt,
-        "write second beyond publication",
-        written(0, 0, 1, 0, 3300),
-    )?;
-    show(rt, "write into 3182 bytes", written(64, 31, 0, 0, 3182))?;
-    show(rt, "write into 3183 bytes", written(64, 31, 0, 0, 3183))?;
+    show(rt, "write round 65", written((65, 0), (0, 0), 3300))?;
+    show(rt, "write calendar 32", written((0, 32), (0, 0), 3300))?;
+    let late = written((0, 0), (0, 0x8000_0000), 3300);
+    show(rt, "write publication 2147483648", late)?;
+    let beyond = written((0, 0), (1, 0), 3300);
+    show(rt, "write second beyond publication", beyond)?;
+    show(rt, "write into 3182 bytes", written((64, 31), (0, 0), 3182))?;
+    show(rt, "write into 3183 bytes", written((64, 31), (0, 0), 3183))?;
     show(rt, "print 1801", printed(&many(), 65000))?;
-    show(
-        rt,
-        "print equal seconds",
-        printed(&[entry(1), entry(1)], 65000),
-    )?;
+    let equal = printed(&[entry(1), entry(1)], 65000);
+    show(rt, "print equal seconds", equal)?;
     show(rt, "print into 43 bytes", printed(&[entry(1)], 43))?;
     show(rt, "print into 44 bytes", printed(&[entry(1)], 44))
 }

@@ -1,6 +1,7 @@
 // What reading a token answers, what it holds, and what writing it leaves.
-use crate::buffer::{FILL, begins, staying};
-use anyhow::anyhow;
+use crate::buffer::{FILL, staying};
+use crate::cases::Case;
+use anyhow::{anyhow, ensure};
 use digest::{Digest, Hash, leaf};
 use token::{Token, read};
 use tree::{CalendarNodes, Link, RoundNodes, Side, follow};
@@ -14,10 +15,15 @@ pub(crate) fn blank() -> Link<Digest> {
     }
 }
 
-fn show_link(rt: &HostRuntime, place: &str, link: &Link<Digest>) -> anyhow::Result<()> {
-    let side = link.side.number();
-    let sibling = link.sibling;
-    println!(rt; "  {place} {side} {sibling}")?;
+// The first and the last link of a path, if it has any.
+fn show_ends(rt: &HostRuntime, path: &str, links: &[Link<Digest>]) -> anyhow::Result<()> {
+    for (end, link) in [("first", links.first()), ("last", links.last())] {
+        if let Some(link) = link {
+            let side = link.side.number();
+            let sibling = link.sibling;
+            println!(rt; "  {end} {path} {side} {sibling}")?;
+        }
+    }
     Ok(())
 }
 
@@ -32,15 +38,16 @@ fn followed<H: Hash>(fields: &Fields) -> Digest {
 fn show_written<H: Hash>(rt: &HostRuntime, token: &Token, fields: &Fields) -> anyhow::Result<()> {
     let mut made = [FILL; 3300];
     let mut copied = [FILL; 3300];
-    let Ok(length) = fields.write::<H>(&mut made) else {
-        return Err(anyhow!("a token that was read is not written"));
-    };
-    let Ok(_) = token.write(&mut copied) else {
-        return Err(anyhow!("a token that was read is not copied"));
-    };
-    if !begins(&made, token.bytes()) || made != copied {
-        return Err(anyhow!("a token is written as other bytes"));
-    }
+    let length = fields
+        .write::<H>(&mut made)
+        .map_err(|_| anyhow!("a token that was read is not written"))?;
+    token
+        .write(&mut copied)
+        .map_err(|_| anyhow!("a token that was read is not copied"))?;
+    ensure!(
+        made.starts_with(token.bytes()) && made == copied,
+        "a token is written as other bytes"
+    );
     let behind = staying(&made, length);
     println!(rt; "  written {length}, {behind} bytes behind stay")?;
     Ok(())
@@ -50,14 +57,8 @@ fn show_written<H: Hash>(rt: &HostRuntime, token: &Token, fields: &Fields) -> an
 fn show_fields<H: Hash>(rt: &HostRuntime, token: &Token, fields: &Fields) -> anyhow::Result<()> {
     let recorded = fields.recorded;
     println!(rt; "  record {recorded}")?;
-    if let (Some(first), Some(last)) = (fields.round.first(), fields.round.last()) {
-        show_link(rt, "first round", first)?;
-        show_link(rt, "last round", last)?;
-    }
-    if let (Some(first), Some(last)) = (fields.calendar.first(), fields.calendar.last()) {
-        show_link(rt, "first calendar", first)?;
-        show_link(rt, "last calendar", last)?;
-    }
+    show_ends(rt, "round", fields.round)?;
+    show_ends(rt, "calendar", fields.calendar)?;
     let reached = followed::<H>(fields);
     println!(rt; "  followed {reached}")?;
     show_written::<H>(rt, token, fields)
@@ -86,12 +87,9 @@ fn show_token<H: Hash>(rt: &HostRuntime, name: &str, token: &Token) -> anyhow::R
 }
 
 // A case of a token.
-pub(crate) fn token_case<H: Hash>(
-    rt: &HostRuntime,
-    name: &str,
-    bytes: &[u8],
-) -> anyhow::Result<()> {
-    match read::<H>(bytes) {
+pub(crate) fn token_case<H: Hash>(rt: &HostRuntime, case: Case<'_>) -> anyhow::Result<()> {
+    let name = case.name;
+    match read::<H>(case.bytes) {
         Ok(token) => show_token::<H>(rt, name, &token),
         Err(fault) => {
             let report = fault.report();
