@@ -54,6 +54,7 @@ fn lay_out<H: Hash>(fields: &Fields, out: &mut [u8]) -> usize
 
 impl Fields<'_> {
     // Writes the token of these fields, under a hash, at the front of a buffer, and answers its length.
+    #[tactic(auto, using(crate::proofs::Refused::tests))]
     pub fn write<H: Hash>(&self, out: &mut [u8]) -> Result<usize, WriteRefusal>
         ensures outcome { result ≡ write_answer (said self.now) (length out.old) }
         ensures after { out.new ≡ write_after result (layout H.Hash.numbered (said self.now)) out.old }
