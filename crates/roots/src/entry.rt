@@ -4,9 +4,10 @@ ghost use Rattle.roots.specs.Entries.{second_in, entry_of, entry_bytes};
 
 use crate::order::Dated;
 use digest::Digest;
+use wire::number_at;
 
 // The root of the calendar as it stood at a second.
-#[derive(Clone, Copy)]
+#[derive(Clone, Copy, PartialEq, Eq)]
 pub struct Entry {
     pub second: u32,
     pub root: Digest,
@@ -24,29 +25,35 @@ impl Dated for [u8; 36] {
     ghost dated = { second_in };
 
     fn second(&self) -> u32 {
-        u32::from_be_bytes([self[0], self[1], self[2], self[3]])
+        number_at(self, 0).unwrap()
     }
 }
 
 // The entry that bytes print.
-pub(crate) fn entry_of(raw: &[u8; 36]) -> Entry
-    ensures { result ≡ entry_of raw.now }
-{
-    let second = raw.second();
-    let mut root = [0; 32];
-    root.copy_from_slice(&raw[4..36]);
-    Entry {
-        second,
-        root: Digest::from(root),
+impl From<&[u8; 36]> for Entry {
+    ghost from_gives = { λ raw entry. entry ≡ entry_of raw.now };
+
+    fn from(raw: &[u8; 36]) -> Entry
+        ensures { result ≡ entry_of raw.now }
+    {
+        let root = raw[4..].first_chunk().unwrap();
+        Entry {
+            second: raw.second(),
+            root: Digest::from(*root),
+        }
     }
 }
 
 // The bytes that print an entry.
-pub(crate) fn bytes_of(entry: &Entry) -> [u8; 36]
-    ensures { result ≡ entry_bytes entry.now }
-{
-    let mut raw = [0; 36];
-    raw[..4].copy_from_slice(&entry.second.to_be_bytes());
-    raw[4..].copy_from_slice(entry.root.as_bytes());
-    raw
+impl From<&Entry> for [u8; 36] {
+    ghost from_gives = { λ entry raw. raw ≡ entry_bytes entry.now };
+
+    fn from(entry: &Entry) -> [u8; 36]
+        ensures { result ≡ entry_bytes entry.now }
+    {
+        let mut raw = [0; 36];
+        raw[..4].copy_from_slice(&entry.second.to_be_bytes());
+        raw[4..].copy_from_slice(entry.root.as_bytes());
+        raw
+    }
 }

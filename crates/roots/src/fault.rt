@@ -5,31 +5,25 @@ ghost use Rattle.roots.specs.Faults.{list_report, print_number};
 use wire::{Layer, Report};
 
 // Why bytes are no printed list, in the order of the tests.
-#[derive(Clone, Copy)]
+#[derive(Clone, Copy, Debug, PartialEq, Eq)]
 pub enum ListFault {
-    Short,
-    Mark,
-    Version,
-    Hash,
-    Size,
-    Seconds,
+    Short = 90,
+    Mark = 91,
+    Version = 92,
+    Hash = 93,
+    Size = 94,
+    Seconds = 95,
 }
 
-impl ListFault {
+impl From<ListFault> for Report {
+    ghost from_gives = { λ fault report. report ≡ list_report fault };
+
     // The fault as it is told.
-    pub fn report(self) -> Report
-        ensures { result ≡ list_report self }
+    fn from(fault: ListFault) -> Report
+        ensures { result ≡ list_report fault }
     {
-        let number = match self {
-            ListFault::Short => 90,
-            ListFault::Mark => 91,
-            ListFault::Version => 92,
-            ListFault::Hash => 93,
-            ListFault::Size => 94,
-            ListFault::Seconds => 95,
-        };
         Report {
-            number,
+            number: fault as u8,
             layer: Layer::Roots,
             place: 0,
         }
@@ -37,11 +31,11 @@ impl ListFault {
 }
 
 // Why a list is not printed, in the order of the tests.
-#[derive(Clone, Copy)]
+#[derive(Clone, Copy, Debug, PartialEq, Eq)]
 pub enum PrintRefusal {
-    Count,
-    Seconds,
-    Short,
+    Count = 94,
+    Seconds = 95,
+    Short = 44,
 }
 
 impl PrintRefusal {
@@ -49,10 +43,6 @@ impl PrintRefusal {
     pub fn number(self) -> u8
         ensures { result ≡ print_number self }
     {
-        match self {
-            PrintRefusal::Count => 94,
-            PrintRefusal::Seconds => 95,
-            PrintRefusal::Short => 44,
-        }
+        self as u8
     }
 }

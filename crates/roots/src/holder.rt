@@ -4,7 +4,7 @@ ghost use Rattle.roots.specs.Entries.{listed, seconds_of, rising, looked_up};
 ghost use Rattle.roots.specs.Laws.{RisingLaw, ReadsBack, FoundLaw};
 ghost use Rattle.roots.specs.Reading.{list_answer, loaded, held_after};
 
-use crate::entry::entry_of;
+use crate::entry::Entry;
 use crate::fault::ListFault;
 use crate::list::PrintedList;
 use crate::reading::read_list;
@@ -45,16 +45,8 @@ impl<'a, D: Hash> Holder<'a, D> {
         ensures order { RisingLaw }
         ensures back { ReadsBack }
     {
-        match read_list::<D>(bytes) {
-            Ok(list) => {
-                *self = Holder {
-                    list,
-                    hash: PhantomData,
-                };
-                Ok(())
-            }
-            Err(fault) => Err(fault),
-        }
+        self.list = read_list::<D>(bytes)?;
+        Ok(())
     }
 }
 
@@ -67,6 +59,7 @@ impl<'a, D> Holder<'a, D> {
     }
 
     // The root of a second. Each look leaves at most half of the entries.
+    // The library's search looks three times at three entries, and tells no number of looks.
     pub fn look_up(&self, second: u32) -> LookUp
         ensures root { result.root ≡ looked_up (listed self.now.list.entries.now) second }
         ensures looks { 2 ^ result.looks ≤ 2 * length (listed self.now.list.entries.now) + 1 }
@@ -78,7 +71,7 @@ impl<'a, D> Holder<'a, D> {
         let mut looks = 0;
         while low < high {
             let middle = low + (high - low) / 2;
-            let entry = entry_of(&entries[middle]);
+            let entry = Entry::from(&entries[middle]);
             looks += 1;
             if entry.second == second {
                 return LookUp {

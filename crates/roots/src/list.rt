@@ -3,7 +3,7 @@ ghost use Rattle.std.specs.Prelude.{◌≡◌, length};
 ghost use Rattle.std.specs.List.{slice_get};
 ghost use Rattle.roots.specs.Entries.{listed};
 
-use crate::entry::{Entry, entry_of};
+use crate::entry::Entry;
 
 #[derive(Clone, Copy)]
 pub struct PrintedList<'a> {
@@ -22,9 +22,6 @@ impl PrintedList<'_> {
     pub fn entry(&self, place: usize) -> Option<Entry>
         ensures { result ≡ slice_get (listed self.now.entries.now) place }
     {
-        match self.entries.get(place) {
-            Some(raw) => Some(entry_of(raw)),
-            None => None,
-        }
+        self.entries.get(place).map(Entry::from)
     }
 }

@@ -5,7 +5,7 @@ ghost use Rattle.roots.specs.Laws.{WrittenLaw};
 ghost use Rattle.roots.specs.Reading.{most, list_layout};
 ghost use Rattle.roots.specs.Printing.{printed_length, print_answer, print_after};
 
-use crate::entry::{Entry, bytes_of};
+use crate::entry::Entry;
 use crate::fault::PrintRefusal;
 use crate::order::rises;
 use crate::reading::{ENTRY, HEAD, MOST};
@@ -19,9 +19,10 @@ fn write_list(number: u8, entries: &[Entry], out: &mut [u8])
 {
     let [high, low] = (entries.len() as u16).to_be_bytes();
     out[..HEAD].copy_from_slice(&[b'H', b'C', b'P', 0, 1, number, high, low]);
+    // Not `as_chunks_mut`: no clause tells what the slice ends as.
     for (place, entry) in entries.iter().enumerate() {
         let at = HEAD + ENTRY * place;
-        out[at..at + ENTRY].copy_from_slice(&bytes_of(entry));
+        out[at..at + ENTRY].copy_from_slice(&<[u8; 36]>::from(entry));
     }
 }
 

@@ -1,3 +1,3 @@
 mod LaidOut
 mod Linked
-mod Refused
+pub mod Refused

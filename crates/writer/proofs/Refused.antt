@@ -5,7 +5,7 @@ use Rattle.wire.specs.Faults.{when, first, unless}
 use Rattle.wire.proofs.Firsts.{passed, stopped}
 use Rattle.token.specs.declared.refusal.WriteRefusal.{WriteRefusal}
 use Rattle.token.specs.declared.refusal.WriteRefusal.TheVariants.{RoundCount, CalendarCount, Publication, Second, Short}
-use Rattle.layout.specs.Content.{Content, Whole, token_length}
+use Rattle.layout.specs.Content.{Content, token_length}
 use Rattle.writer.specs.Said.{write_answer}
 
 module _ (t : Content) (room : ℕ) where
@@ -52,14 +52,15 @@ module _ (t : Content) (room : ℕ) where
         pub at_second : t.publication < t.second → Err Second ≡ write_answer t room
         at_second h = answered (past_publication ∙ stopped shorts _ _ (lt-ltb t.publication t.second h))
 
-  module _ (w : Whole t) where
-    past_second : first rounds ≡ first shorts
-    past_second =
-        past_publication w.round_short w.calendar_short w.early
-        ∙ passed shorts _ _ (le-ltb t.publication t.second w.covered)
+        module _ (covered : t.second ≤ t.publication) where
+          past_second : first rounds ≡ first shorts
+          past_second = past_publication ∙ passed shorts _ _ (le-ltb t.publication t.second covered)
 
-    pub at_short : room < token_length t → Err Short ≡ write_answer t room
-    at_short h = answered (past_second ∙ stopped [] _ _ (lt-ltb room (token_length t) h))
+          pub at_short : room < token_length t → Err Short ≡ write_answer t room
+          at_short h = answered (past_second ∙ stopped [] _ _ (lt-ltb room (token_length t) h))
 
-    pub past_all : token_length t ≤ room → Ok (token_length t) ≡ write_answer t room
-    past_all h = answered (past_second ∙ passed [] _ _ (le-ltb room (token_length t) h))
+          pub past_all : token_length t ≤ room → Ok (token_length t) ≡ write_answer t room
+          past_all h = answered (past_second ∙ passed [] _ _ (le-ltb room (token_length t) h))
+
+-- the tests in their order
+pub ruleset tests = (at_round, at_calendar, at_publication, at_second, at_short, past_all)

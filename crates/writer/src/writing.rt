@@ -1,5 +1,5 @@
 // A token written from its fields.
-ghost use Rattle.std.specs.Prelude.{◌≡◌, ℕ, ◌+◌, ◌*◌, ◌≤◌, List, ◌++◌, length, Ok, OnOk};
+ghost use Rattle.std.specs.Prelude.{◌≡◌, ◌*◌, ◌≤◌, length, Ok, OnOk};
 ghost use Rattle.tree.specs.Answers.{over};
 ghost use Rattle.layout.specs.Content.{Whole, token_length, link_bytes, links_bytes, layout};
 ghost use Rattle.layout.specs.Faults.{parsed};
@@ -13,17 +13,6 @@ use layout::{HEAD, LINK, MOST_CALENDAR, MOST_ROUND, PUBLICATIONS};
 use token::WriteRefusal;
 use tree::Link;
 
-// Writes a part behind what is written already, and answers the place behind it.
-fn put(out: &mut [u8], at: usize, part: &[u8]) -> usize
-    requires { at + length part.now ≤ length out.old }
-    ensures end { result ≡ at + length part.now }
-    ensures behind { (front old : List ℕ) → length front ≡ at → out.old ≡ over front old → out.new ≡ over (front ++ part.now) old }
-{
-    let end = at + part.len();
-    out[at..end].copy_from_slice(part);
-    end
-}
-
 // A link in 33 bytes: its side, and the sibling.
 fn raw(link: &Link<Digest>) -> [u8; 33]
     ensures { result ≡ link_bytes link.now }
@@ -33,17 +22,16 @@ fn raw(link: &Link<Digest>) -> [u8; 33]
     bytes
 }
 
-// Writes links behind what is written already, and answers the place behind them.
-fn put_links(out: &mut [u8], at: usize, links: &[Link<Digest>]) -> usize
-    requires { at + 33 * length links.now ≤ length out.old }
-    ensures end { result ≡ at + 33 * length links.now }
-    ensures behind { (front old : List ℕ) → length front ≡ at → out.old ≡ over front old → out.new ≡ over (front ++ links_bytes links.now) old }
+// Writes links over a buffer of their size.
+fn put_links(links: &[Link<Digest>], out: &mut [u8])
+    requires { length out.old ≡ 33 * length links.now }
+    ensures { out.new ≡ links_bytes links.now }
 {
-    let mut end = at;
-    for link in links {
-        end = put(out, end, &raw(link));
+    // Not `as_chunks_mut`: no clause tells what the slice ends as.
+    for (k, link) in links.iter().enumerate() {
+        let at = LINK * k;
+        out[at..at + LINK].copy_from_slice(&raw(link));
     }
-    end
 }
 
 // Writes all of a token at the front of a buffer that has room for it, and answers its length.
@@ -52,21 +40,21 @@ fn lay_out<H: Hash>(fields: &Fields, out: &mut [u8]) -> usize
     ensures size { result ≡ token_length (said fields.now) }
     ensures after { out.new ≡ over (layout H.Hash.numbered (said fields.now)) out.old }
 {
-    let at = put(out, 0, &[b'H', b'C', b'T', 0, 1, H::code()]);
-    let at = put(out, at, fields.recorded.as_bytes());
-    let at = put(out, at, &fields.second.to_be_bytes());
-    let at = put(out, at, &fields.publication.to_be_bytes());
-    let at = put(
-        out,
-        at,
-        &[fields.round.len() as u8, fields.calendar.len() as u8],
-    );
-    let at = put_links(out, at, fields.round);
-    put_links(out, at, fields.calendar)
+    out[..6].copy_from_slice(&[b'H', b'C', b'T', 0, 1, H::code()]);
+    out[6..38].copy_from_slice(fields.recorded.as_bytes());
+    out[38..42].copy_from_slice(&fields.second.to_be_bytes());
+    out[42..46].copy_from_slice(&fields.publication.to_be_bytes());
+    out[46..HEAD].copy_from_slice(&[fields.round.len() as u8, fields.calendar.len() as u8]);
+    let middle = HEAD + LINK * fields.round.len();
+    put_links(fields.round, &mut out[HEAD..middle]);
+    let end = middle + LINK * fields.calendar.len();
+    put_links(fields.calendar, &mut out[middle..end]);
+    end
 }
 
 impl Fields<'_> {
     // Writes the token of these fields, under a hash, at the front of a buffer, and answers its length.
+    #[tactic(auto, using(crate::proofs::Refused::tests))]
     pub fn write<H: Hash>(&self, out: &mut [u8]) -> Result<usize, WriteRefusal>
         ensures outcome { result ≡ write_answer (said self.now) (length out.old) }
         ensures after { out.new ≡ write_after result (layout H.Hash.numbered (said self.now)) out.old }

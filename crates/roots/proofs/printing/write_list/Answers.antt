@@ -7,7 +7,7 @@ pub loop-place-preserved : goal.loop-place-preserved
 loop-place-preserved c =
     let old : List ℕ = c.copy_from_slice.new.self ++ drop 8 c.args.out.now in
     let is : c.copy_from_slice-in-loop-place.new.self ≡ entry_bytes c.index-entries-place.result =
-    c.copy_from_slice-in-loop-place.ensures.after ∙ c.bytes_of.ensures in
+    c.copy_from_slice-in-loop-place.ensures.after ∙ c.from.ensures in
     over_more c.args.number c.args.entries.now c.loop-place.place old c.loop-place.out c.copy_from_slice-in-loop-place.new.self
     c.loop-place.invariant c.loop-place-test.true c.index-entries-place.result c.index-entries-place.is is _ (omega arith)
 

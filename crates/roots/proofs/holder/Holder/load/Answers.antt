@@ -1,16 +1,15 @@
-use Rattle.std.proofs.Common.{ap}
-use Rattle.roots.specs.Entries.{listed}
-use Rattle.roots.specs.Reading.{loaded, held_after}
 use Rattle.roots.proofs.ReadBack.{reads_back}
 use Rattle.roots.proofs.Rises.{rising_law}
 use Rattle.roots.proofs.holder.Holder.load.Goals as goal
 
-pub returns-in-Ok : goal.returns-in-Ok
-returns-in-Ok g c =
-    let read = c.in-Ok.ensures in
-    record { outcome = ap loaded read; after = ap (λ a. held_after a (listed c.args.self.now.list.entries.now)) read; order = rising_law; back = reads_back }
+pub returns-in_err-self-clause-order : goal.returns-in_err-self-clause-order
+returns-in_err-self-clause-order g c = rising_law
 
-pub returns-in-Err : goal.returns-in-Err
-returns-in-Err g c =
-    let read = c.in-Err.ensures in
-    record { outcome = ap loaded read; after = ap (λ a. held_after a (listed c.args.self.now.list.entries.now)) read; order = rising_law; back = reads_back }
+pub returns-in_err-self-clause-back : goal.returns-in_err-self-clause-back
+returns-in_err-self-clause-back g c = reads_back
+
+pub returns-clause-order : goal.returns-clause-order
+returns-clause-order g c = rising_law
+
+pub returns-clause-back : goal.returns-clause-back
+returns-clause-back g c = reads_back
