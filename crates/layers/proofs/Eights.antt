@@ -1,7 +1,7 @@
 -- The groups of a list: where an item stands among them, and where its way leads.
 use Rattle.std.proofs.Common.{◌≡◌, ℕ, ◌+◌, ◌-◌, ◌*◌, ◌/◌, ◌%◌, ◌<◌, ◌≤◌, min, ltb, List, [], ◌∷◌, ◌++◌, length, get_or, take, drop, Some, Ok, Option, unwrap_or, map, sym, refl, ap, ◌∙◌, inl, inr, arith}
 use Rattle.std.specs.List.{slice_get, range_with_len}
-use Rattle.std.proofs.lemmas.List.{append-nil, nil_from_length, length-append, length-map, length-take, length-drop, take_all, drop_all, take_at, drop_at, drop-drop, take-take, drop-take, get_or-take, get_or-drop, get_or_past}
+use Rattle.std.proofs.lemmas.List.{append-nil, nil_from_length, length-append, length-map, length-take, length-drop, take_all, drop_all, take_at, drop_at, drop-drop, take-take, drop-take, get_or-take, get_or-drop}
 use Rattle.std.proofs.lemmas.List.FromFn.{length-map-range_with_len, map-range_with_len_more, get_or-map-range_with_len}
 use Rattle.std.proofs.lemmas.Option.{slice_get-get_or}
 use Rattle.std.proofs.lemmas.Bool.{cond-true, cond-false, lt-ltb, le-ltb, cases_lt}
@@ -12,10 +12,10 @@ use Rattle.tree.specs.Answers.{path_answer}
 use Rattle.tree.proofs.Roots.{root_is}
 use Rattle.tree.proofs.Paths.{path_is, path_law, shape_law}
 use Rattle.tree.proofs.ShapeLaws.{shape_short}
-use Rattle.pile.specs.Meaning.{Meaning, Sealed, Way, Law, EmptyLaw, round_join}
-use Rattle.pile.specs.Answers.{committed}
-use Rattle.layers.proofs.Ways.{followed_append, nth_is, Over}
-use Rattle.layers.specs.Grouping.{group, groups, group_root, group_roots, group_path, grouped_way, grouped_ways, grouped_round, grouping_meaning, grouping_fresh, grouping_seal}
+use Rattle.pile.specs.Meaning.{Way, round_join}
+use Rattle.layers.proofs.Ways.{nth_is}
+use Rattle.layers.specs.Layered.{Lowers}
+use Rattle.layers.specs.Grouping.{group, groups, group_root, group_roots, group_path, grouping}
 
 -- what is there, is its own value
 some_value : {A : Type 0} (o : Option A) (x d : A) → o ≡ Some x → o ≡ Some (unwrap_or o d)
@@ -99,28 +99,6 @@ module _ (digested : List ℕ → Digest) where
   pub path_three : (items : List Digest) (i : ℕ) → i < length items → length (group_path digested items i) ≤ 3
   path_three items i h = omega (arith, path_length items i h, shape_three items i)
 
-  pub way_at : (items : List Digest) (below : List Way) (i : ℕ) → i < length items
-      → get_or (grouped_ways digested items below) i [] ≡ grouped_way digested items below i
-  way_at items below i h = get_or-map-range_with_len (grouped_way digested items below) 0 (length items) i i [] h (omega arith)
-
-  -- no way is longer than three links and the way below
-  pub grouped_short : (items : List Digest) (below : List Way) (deepest : ℕ) → ((i : ℕ) → length (get_or below i []) ≤ deepest)
-      → (i : ℕ) → length (get_or (grouped_ways digested items below) i []) ≤ 3 + deepest
-  grouped_short items below deepest short i =
-      elim (cases_lt i (length items)) [
-        | inl h ↦
-            omega (
-              arith,
-              ap length (way_at items below i h),
-              length-append (group_path digested items i) (get_or below (i / 8) []),
-              path_three items i h,
-              short (i / 8),
-            )
-        | inr past ↦
-            let size = length-map-range_with_len (grouped_way digested items below) 0 (length items) in
-            omega (arith, ap length (get_or_past (grouped_ways digested items below) i [] (omega (arith, size))))
-      ]
-
   pub length_roots : (items : List Digest) → length (group_roots digested items) ≡ groups (length items)
   length_roots items = length-map-range_with_len (λ j. group_root digested (group items j)) 0 (groups (length items))
 
@@ -180,72 +158,17 @@ module _ (digested : List ℕ → Digest) where
       let from = ap (λ x. followed join x ws) start in
       cc
 
-  -- a grouping's way, by the pile below
-  pub grouping_over : (stored : List Digest) (m : Meaning) (place : ℕ) → place < length stored
-      → Over (grouping_meaning digested stored m) m place (place / 8) (group_path digested stored place)
-  grouping_over stored m place h =
-      let n : ℕ = length m.round in
-      let size = length-take (8 * n) stored in
+  pub grouping_lowers : Lowers 8 3 digested (grouping digested)
+  grouping_lowers =
       record {
-        inside = λ k. omega (arith, size);
-        outside = λ k. omega (arith, size);
-        way = λ k.
-            way_at (take (8 * n) stored) m.ways place (omega (arith, size))
-            ∙ ap (λ xs. unwrap_or (path join xs (place % 8)) [] ++ get_or m.ways (place / 8) []) (group_cut stored (place / 8) n k);
+        spots = λ i. refl;
+        covers = λ n. refl;
+        linked = refl;
+        placed = λ i n. (λ h. omega arith, λ h. omega arith);
+        filled = λ items n. (λ h. omega (arith, length_roots items), λ h. omega (arith, length_roots items));
+        parted = λ items i n h. ap (λ xs. unwrap_or (path join xs (i % 8)) []) (group_cut items (i / 8) n (omega arith));
+        short = path_three;
+        leads = λ items i item e.
+            let h = nth_is items i item e in
+            root_at items (i / 8) (omega (arith, h.0)) ∙ ap Some (sym (to_root items i item e));
       }
-
-  -- nothing of a list is cut off that has gone down whole
-  pub uncut : (items round : List Digest) → round ≡ group_roots digested items → grouped_round items round ≡ items
-  uncut items round e = take_all (8 * length round) items (omega (arith, ap length e, length_roots items))
-
-  pub grouping_after : (m : Meaning) (items : List Digest) (sealed : Sealed) (stored : List Digest)
-      → grouping_meaning digested items (committed m (group_roots digested items) sealed (Ok tt))
-      ≡ committed (grouping_meaning digested stored m) items (grouping_seal digested items sealed) (Ok tt)
-  grouping_after m items sealed stored =
-      ap
-      (λ xs. record {
-        row = m.row ++ sealed.digest ∷ [];
-        round = xs;
-        ways = grouped_ways digested xs sealed.ways;
-        most = min 256 (8 * m.most);
-        span = m.span;
-        deepest = 3 + m.deepest;
-      })
-      (uncut items (group_roots digested items) refl)
-
-  -- the law holds of a grouping, since it holds of the pile below
-  pub grouping_law : (m : Meaning) (items : List Digest) → m.round ≡ group_roots digested items → Law digested m
-      → Law digested (grouping_meaning digested items m)
-  grouping_law m items e law i item there =
-      let same = uncut items m.round e in
-      let at : slice_get items i ≡ Some item = ap (λ xs. slice_get xs i) (sym same) ∙ there in
-      let h : i < length items = (nth_is items i item at).0 in
-      let root : Digest = group_root digested (group items (i / 8)) in
-      let below : slice_get m.round (i / 8) ≡ Some root = ap (λ xs. slice_get xs (i / 8)) e ∙ root_at items (i / 8) (omega arith) in
-      let way : get_or (grouped_ways digested (grouped_round items m.round) m.ways) i [] ≡ grouped_way digested items m.ways i =
-      ap (λ xs. get_or (grouped_ways digested xs m.ways) i []) same ∙ way_at items m.ways i h in
-      law (i / 8) root below
-      ∙ ap Some (sym (
-      ap (followed join item) way
-      ∙ (followed_append join (group_path digested items i) (get_or m.ways (i / 8) []) item
-      ∙ ap (λ x. followed join x (get_or m.ways (i / 8) [])) (to_root items i item at))
-      ))
-
-  pub grouping_empty : (m : Meaning) (items : List Digest) → m.round ≡ group_roots digested items → EmptyLaw digested m
-      → EmptyLaw digested (grouping_meaning digested items m)
-  grouping_empty m items e law none =
-      law (e ∙ ap (group_roots digested) (sym (uncut items m.round e) ∙ none))
-
-  -- a grouping that has stored no list
-  pub grouping_new : (m : Meaning) → grouping_meaning digested [] m ≡ grouping_fresh m
-  grouping_new m =
-      ap
-      (λ xs. record {
-        row = m.row;
-        round = xs;
-        ways = grouped_ways digested xs m.ways;
-        most = min 256 (8 * m.most);
-        span = m.span;
-        deepest = 3 + m.deepest;
-      })
-      (take_all (8 * length m.round) [] (omega arith))

@@ -1,4 +1,5 @@
 mod Ways
+mod Layers
 mod Eights
 mod UnderMasks
 mod Nine

@@ -1,10 +1,9 @@
 -- What a layer answers of a way, from what the pile below answers.
-use Rattle.std.proofs.Common.{◌≡◌, ℕ, ◌+◌, ◌-◌, ◌<◌, ◌≤◌, min, true, false, cond, ltb, List, [], ◌∷◌, ◌++◌, length, get_or, take, drop, is_some, Some, None, Ok, Err, Result, sym, refl, ap, ◌∙◌, inl, inr, arith}
+use Rattle.std.proofs.Common.{◌≡◌, ℕ, ◌+◌, ◌<◌, ◌≤◌, min, cond, ltb, List, [], ◌∷◌, ◌++◌, length, get_or, drop, Some, None, Ok, Err, Option, Result, sym, refl, ap, ◌∙◌, inl, inr, arith}
 use Rattle.std.specs.List.{slice_get}
-use Rattle.std.proofs.lemmas.List.{append-nil, append_assoc, length-append, length-drop, length-take-le, take-append-drop, take_rest, drop_all, drop_at, drop-drop}
-use borrow.Rule.Slice.PartMut.{put_mid}
+use Rattle.std.proofs.lemmas.List.{length-append}
 use Rattle.std.proofs.lemmas.Option.{slice_get-get_or, slice_get_past}
-use Rattle.std.proofs.lemmas.Bool.{cond-true, cond-false, lt-ltb, le-ltb, cases_lt, both_ways}
+use Rattle.std.proofs.lemmas.Bool.{cond-true, cond-false, lt-ltb, le-ltb, cases_lt}
 use Rattle.tree.specs.declared.link.Link.{Link}
 use Rattle.tree.specs.Trees.{step, followed}
 use Rattle.pile.specs.declared.refusal.CommitRefusal.{CommitRefusal}
@@ -32,6 +31,9 @@ nth_is xs i x e =
 -- what is answered is no refusal
 pub no_refusal : {P : Type 0} (r : Result (Unit {0}) CommitRefusal) (refusal : CommitRefusal) → r ≡ Ok tt → r ≡ Err refusal → P
 no_refusal r refusal ok err = let z : ◌≡◌ {A = ℕ} 0 1 = cc in absurd (omega arith)
+
+pub no_none : {A P : Type 0} (o : Option A) (x : A) → o ≡ Some x → o ≡ None → P
+no_none o x some none = let z : ◌≡◌ {A = ℕ} 0 1 = cc in absurd (omega arith)
 
 module _ (below : Meaning) (front : Way) (place room : ℕ) where
   pub behind_absent : length below.round ≤ place → behind_answer below front place room ≡ Err Absent
@@ -100,48 +102,3 @@ module _ {layer below : Meaning} {place lower : ℕ} {front : Way} (over : Over 
             let z : ◌≡◌ {A = ℕ} 0 1 = cc in
             absurd (omega arith)
       ]
-
-  pub gone : way_length below lower ≡ None → way_length layer place ≡ None
-  gone e =
-      elim (cases_lt lower (length below.round)) [
-        | inr past ↦ length_absent layer place (over.outside past)
-        | inl h ↦
-            let some = length_there below lower h in
-            let z : ◌≡◌ {A = ℕ} 0 1 = cc in
-            absurd (omega arith)
-      ]
-
--- a way whose length is told is there
-pub present : (m : Meaning) (place : ℕ) → is_some (way_length m place) ≡ true → place < length m.round
-present m place e =
-    elim (cases_lt place (length m.round)) [
-      | inl h ↦ h
-      | inr past ↦
-          let none : is_some (way_length m place) ≡ false = ap is_some (length_absent m place past) in
-          absurd (both_ways (is_some (way_length m place)) none e)
-    ]
-
-module _ (links : Way) (n : ℕ) (fits : n ≤ length links) where
-  -- the part of the links behind the first n
-  abbrev pub rest_of : Way
-  rest_of = take (length links - n) (drop n links)
-
-  -- the first n links and then others in the place of the rest
-  pub put_rest : (ys : Way) → put_mid n (length links - n) links ys ≡ take n links ++ ys
-  put_rest ys =
-      ap (λ zs. take n links ++ (ys ++ zs)) (drop_all (length links - n) (drop n links) (omega (arith, length-drop n links)))
-      ∙ ap (λ zs. take n links ++ zs) (append-nil ys)
-
-  pub put_back : (ys : Way) → ys ≡ rest_of → put_mid n (length links - n) links ys ≡ links
-  put_back ys e = put_rest ys ∙ (ap (λ zs. take n links ++ zs) (e ∙ take_rest links n) ∙ take-append-drop n links)
-
-  -- links of a layer's own before a way that was written behind them
-  pub put_front : (front way ys : Way) (count : ℕ) → length front ≡ n → ys ≡ way ++ drop count rest_of
-      → front ++ drop (n - 0) (put_mid n (length links - n) links ys) ≡ (front ++ way) ++ drop (n + count) links
-  put_front front way ys count size e =
-      let whole : n - 0 ≡ n = omega arith in
-      let rest : drop (n - 0) (put_mid n (length links - n) links ys) ≡ ys =
-      ap (λ k. drop k (put_mid n (length links - n) links ys)) whole
-      ∙ (ap (drop n) (put_rest ys) ∙ drop_at (take n links) ys n (length-take-le n links fits)) in
-      let behind-them : drop count rest_of ≡ drop (n + count) links = ap (drop count) (take_rest links n) ∙ drop-drop count n links in
-      ap (λ zs. front ++ zs) (rest ∙ (e ∙ ap (λ zs. way ++ zs) behind-them)) ∙ sym (append_assoc front way (drop (n + count) links))

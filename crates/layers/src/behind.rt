@@ -16,18 +16,12 @@ pub(crate) fn behind<P: Pile>(
     ensures outcome { result ≡ behind_answer (P.Pile.meaning below.now) front.now place (length links.old) }
     ensures after { links.new ≡ behind_written (P.Pile.meaning below.now) front.now place links.old result }
 {
-    if below.way_length(place).is_none() {
-        return Err(WayRefusal::Absent);
-    }
     let count = front.len();
     if links.len() < count {
+        below.way_length(place).ok_or(WayRefusal::Absent)?;
         return Err(WayRefusal::Short);
     }
-    match below.way(place, &mut links[count..]) {
-        Ok(rest) => {
-            links[0..count].copy_from_slice(front);
-            Ok(count + rest)
-        }
-        Err(refusal) => Err(refusal),
-    }
+    let rest = below.way(place, &mut links[count..])?;
+    links[..count].copy_from_slice(front);
+    Ok(count + rest)
 }

@@ -1,106 +1,91 @@
-// Grouping: a list of at most 256 digests goes down as the roots of its groups of eight.
-ghost use Rattle.std.specs.Prelude.{◌≡◌};
+// Grouping: a list goes down as the roots of its groups, eight digests each or what remains.
+ghost use Rattle.std.specs.Prelude.{◌≡◌, ◌<◌, ◌/◌, List, length};
+ghost use Rattle.std.specs.Option.{option_map};
+ghost use Rattle.digest.specs.declared.value.Digest.{Digest};
 ghost use Rattle.layers.specs.Table.{NineTable};
-ghost use Rattle.layers.specs.Grouping.{group_roots, grouping_meaning, grouping_fresh, grouping_seal};
+ghost use Rattle.layers.specs.Layered.{front_answer};
+ghost use Rattle.layers.specs.Grouping.{group, group_root, group_roots, grouping, grouping_meaning, grouping_seal, grouping_fresh};
 
-use crate::behind::behind;
-use crate::groups::{group_path, group_roots};
-use arrayvec::ArrayVec;
-use digest::Digest;
-use pile::{CommitRefusal, Pile, WayRefusal};
-use tree::{Link, Side};
+use crate::kind::{Front, Items, Kind};
+use crate::layer::Layer;
+use digest::{Digest, Hash, empty_second};
+use pile::Pile;
+use tree::{Link, RoundNodes};
 
-#[derive(Drop)]
-pub struct Grouping<P> {
-    below: P,
-    list: ArrayVec<Digest, 256>,
-}
+#[derive(Clone, Copy)]
+pub struct Groups;
 
-impl<P: Pile> Grouping<P> {
+pub type Grouping<P> = Layer<P, Groups>;
+
+impl<P: Pile> Layer<P, Groups> {
     // A grouping over a pile, which has stored no list yet.
     pub fn over(below: P) -> Grouping<P>
         ensures pile { result.below ≡ below }
         ensures meaning { grouping_meaning P.Digester.Hash.digested result.list.items (P.Pile.meaning result.below) ≡ grouping_fresh (P.Pile.meaning below) }
+        ensures means { (p : _) → ⟦<Layer<P, Groups> as Pile>⟧.meaning p ≡ grouping_meaning P.Digester.Hash.digested p.list.items (P.Pile.meaning p.below) }
+        ensures seals { (p : _) (items : List Digest) → ⟦<Layer<P, Groups> as Pile>⟧.seal p items ≡ grouping_seal P.Digester.Hash.digested items (P.Pile.seal p.below (group_roots P.Digester.Hash.digested items)) }
         ensures table { NineTable }
     {
-        Grouping {
+        Layer {
             below,
-            list: ArrayVec::new(),
+            kind: Groups,
+            second: 0,
+            list: Items::new(),
         }
     }
 }
 
-// Three links to write a path over.
-fn blank() -> [Link<Digest>; 3] {
-    [Link {
-        side: Side::Right,
-        sibling: Digest::default(),
-    }; 3]
+// The group that a place is in.
+fn group_of(items: &[Digest], place: usize) -> &[Digest]
+    requires { place < length items.now }
+    ensures { result.now ≡ group items.now (place / 8) }
+{
+    let rest = &items[place - place % 8..];
+    &rest[..rest.len().min(8)]
 }
 
-impl<P: Pile> Pile for Grouping<P> {
-    type Digester = P::Digester;
+// The root of a group.
+fn group_root<H: Hash>(items: &[Digest]) -> Digest
+    ensures { result ≡ group_root H.Hash.digested items.now }
+{
+    tree::root::<RoundNodes<H>>(items).unwrap_or_else(|| empty_second::<H>())
+}
 
-    ghost meaning = { λ p. grouping_meaning P.Digester.Hash.digested p.list.items (P.Pile.meaning p.below) };
+// The path of a place in its group; none where the list has no such place.
+fn group_path<H: Hash>(items: &[Digest], place: usize) -> Option<Front>
+    ensures { option_map (λ v. v.items) result ≡ front_answer (grouping H.Hash.digested) items.now place }
+{
+    if place >= items.len() {
+        return None;
+    }
+    let mut path = Front::from([Link::default(); 3]);
+    let count = tree::path::<RoundNodes<H>>(group_of(items, place), place % 8, &mut path).ok()?;
+    path.truncate(count);
+    Some(path)
+}
 
-    ghost seal = { λ p items. grouping_seal P.Digester.Hash.digested items (P.Pile.seal p.below (group_roots P.Digester.Hash.digested items)) };
+impl Kind for Groups {
+    const WIDTH: usize = 8;
 
-    fn commit(&mut self, list: &[Digest]) -> Result<(), CommitRefusal> {
-        let Ok(list) = ArrayVec::try_from(list) else {
-            return Err(CommitRefusal::TooMany);
-        };
-        if list.len() > self.most() {
-            return Err(CommitRefusal::TooMany);
+    ghost WIDTH = { 8 };
+
+    const LINKS: u8 = 3;
+
+    ghost LINKS = { 3 };
+
+    ghost lowering = { λ kind digested second. grouping digested };
+
+    fn lawful() {}
+
+    fn lower<H: Hash>(&self, _second: u32, list: &Items) -> Items {
+        let mut roots = Items::new();
+        for part in list.chunks(8) {
+            roots.push(group_root::<H>(part));
         }
-        if self.below.seconds() >= self.below.span() {
-            return Err(CommitRefusal::Full);
-        }
-        self.below.commit(&group_roots::<P::Digester>(&list))?;
-        self.list = list;
-        Ok(())
+        roots
     }
 
-    fn seconds(&self) -> u32 {
-        self.below.seconds()
-    }
-
-    fn second(&self, second: u32) -> Option<Digest> {
-        self.below.second(second)
-    }
-
-    fn way_length(&self, place: usize) -> Option<u8> {
-        let items = self.list.as_slice();
-        if place >= items.len() {
-            return None;
-        }
-        match self.below.way_length(place / 8) {
-            Some(rest) => {
-                let count = group_path::<P::Digester>(items, place, &mut blank());
-                Some(rest.saturating_add(count as u8))
-            }
-            None => None,
-        }
-    }
-
-    fn way(&self, place: usize, links: &mut [Link<Digest>]) -> Result<usize, WayRefusal> {
-        let items = self.list.as_slice();
-        if place >= items.len() {
-            return Err(WayRefusal::Absent);
-        }
-        let mut path = blank();
-        let count = group_path::<P::Digester>(items, place, &mut path);
-        behind(&self.below, place / 8, &path[0..count], links)
-    }
-
-    fn most(&self) -> usize {
-        self.below.most().saturating_mul(8).min(256)
-    }
-
-    fn span(&self) -> u32 {
-        self.below.span()
-    }
-
-    fn deepest(&self) -> u8 {
-        self.below.deepest().saturating_add(3)
+    fn front<H: Hash>(&self, _second: u32, list: &Items, place: usize) -> Option<Front> {
+        group_path::<H>(list, place)
     }
 }

@@ -3,9 +3,9 @@
 
 mod behind;
 mod grouping;
-mod groups;
+mod kind;
+mod layer;
 mod masking;
-mod masks;
 
 pub use grouping::Grouping;
 pub use masking::Masking;

@@ -1,101 +1,68 @@
-// Masking: each item of a list of at most 256 goes down under a mask that is made from a seed.
-ghost use Rattle.std.specs.Prelude.{◌≡◌, length};
-ghost use Rattle.layers.specs.Masking.{masked, masking_meaning, masking_fresh, masking_seal};
+// Masking: each item of a list goes down under a mask that is made from a seed: mask left, item right.
+ghost use Rattle.std.specs.Prelude.{◌≡◌, List, length};
+ghost use Rattle.digest.specs.declared.value.Digest.{Digest};
+ghost use Rattle.layers.specs.Masking.{masked, masking, masking_meaning, masking_seal, masking_fresh};
 
-use crate::behind::behind;
-use crate::masks::hide;
-use arrayvec::ArrayVec;
-use digest::{Digest, Seed, mask};
-use pile::{CommitRefusal, Pile, WayRefusal};
+use crate::kind::{Front, Items, Kind};
+use crate::layer::Layer;
+use digest::{Digest, Hash, ROUND, Seed, mask, node};
+use pile::Pile;
 use tree::{Link, Side};
 
-#[derive(Drop)]
-pub struct Masking<P> {
-    below: P,
+#[derive(Clone, Copy)]
+pub struct Masks {
     seed: Seed,
-    second: u32,
-    list: ArrayVec<Digest, 256>,
 }
 
-impl<P: Pile> Masking<P> {
+pub type Masking<P> = Layer<P, Masks>;
+
+impl<P: Pile> Layer<P, Masks> {
     // A masking over a pile, which has stored no list yet.
     pub fn over(below: P, seed: Seed) -> Masking<P>
         ensures pile { result.below ≡ below }
-        ensures seed { result.seed ≡ seed }
-        ensures meaning { masking_meaning P.Digester.Hash.digested result.seed result.second result.list.items (P.Pile.meaning result.below) ≡ masking_fresh (P.Pile.meaning below) }
+        ensures seed { result.kind.seed ≡ seed }
+        ensures meaning { masking_meaning P.Digester.Hash.digested result.kind.seed result.second result.list.items (P.Pile.meaning result.below) ≡ masking_fresh (P.Pile.meaning below) }
+        ensures means { (p : _) → ⟦<Layer<P, Masks> as Pile>⟧.meaning p ≡ masking_meaning P.Digester.Hash.digested p.kind.seed p.second p.list.items (P.Pile.meaning p.below) }
+        ensures seals { (p : _) (items : List Digest) → ⟦<Layer<P, Masks> as Pile>⟧.seal p items ≡ masking_seal P.Digester.Hash.digested p.kind.seed (length (P.Pile.meaning p.below).row) items (P.Pile.seal p.below (masked P.Digester.Hash.digested p.kind.seed (length (P.Pile.meaning p.below).row) items)) }
     {
-        Masking {
+        Layer {
             below,
-            seed,
+            kind: Masks { seed },
             second: 0,
-            list: ArrayVec::new(),
+            list: Items::new(),
         }
     }
 }
 
-impl<P: Pile> Pile for Masking<P> {
-    type Digester = P::Digester;
+impl Kind for Masks {
+    const WIDTH: usize = 1;
 
-    ghost meaning = { λ p. masking_meaning P.Digester.Hash.digested p.seed p.second p.list.items (P.Pile.meaning p.below) };
+    ghost WIDTH = { 1 };
 
-    ghost seal = { λ p items. masking_seal P.Digester.Hash.digested p.seed (length (P.Pile.meaning p.below).row) items (P.Pile.seal p.below (masked P.Digester.Hash.digested p.seed (length (P.Pile.meaning p.below).row) items)) };
+    const LINKS: u8 = 1;
 
-    fn commit(&mut self, list: &[Digest]) -> Result<(), CommitRefusal> {
-        let Ok(list) = ArrayVec::try_from(list) else {
-            return Err(CommitRefusal::TooMany);
-        };
-        if list.len() > self.most() {
-            return Err(CommitRefusal::TooMany);
+    ghost LINKS = { 1 };
+
+    ghost lowering = { λ kind digested second. masking digested kind.seed second };
+
+    fn lawful() {}
+
+    fn lower<H: Hash>(&self, second: u32, list: &Items) -> Items {
+        let mut hidden = Items::new();
+        for (place, item) in list.iter().enumerate() {
+            let over = mask::<H>(&self.seed, second, place as u16);
+            hidden.push(node::<H, ROUND>(&over, item));
         }
-        let second = self.below.seconds();
-        if second >= self.below.span() {
-            return Err(CommitRefusal::Full);
-        }
-        self.below
-            .commit(&hide::<P::Digester>(&self.seed, second, &list))?;
-        self.second = second;
-        self.list = list;
-        Ok(())
+        hidden
     }
 
-    fn seconds(&self) -> u32 {
-        self.below.seconds()
-    }
-
-    fn second(&self, second: u32) -> Option<Digest> {
-        self.below.second(second)
-    }
-
-    fn way_length(&self, place: usize) -> Option<u8> {
-        if place >= self.list.len() {
-            return None;
-        }
-        match self.below.way_length(place) {
-            Some(rest) => Some(rest.saturating_add(1)),
-            None => None,
-        }
-    }
-
-    fn way(&self, place: usize, links: &mut [Link<Digest>]) -> Result<usize, WayRefusal> {
-        if place >= self.list.len() {
-            return Err(WayRefusal::Absent);
-        }
-        let first = [Link {
+    fn front<H: Hash>(&self, second: u32, list: &Items, place: usize) -> Option<Front> {
+        list.get(place)?;
+        let mut front = Front::new();
+        front.push(Link {
             side: Side::Left,
-            sibling: mask::<P::Digester>(&self.seed, self.second, place as u16),
-        }];
-        behind(&self.below, place, &first, links)
-    }
-
-    fn most(&self) -> usize {
-        self.below.most().min(256)
-    }
-
-    fn span(&self) -> u32 {
-        self.below.span()
-    }
-
-    fn deepest(&self) -> u8 {
-        self.below.deepest().saturating_add(1)
+            sibling: mask::<H>(&self.seed, second, place as u16),
+        });
+        Some(front)
     }
 }

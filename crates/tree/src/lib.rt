@@ -1,6 +1,7 @@
 // Trees over lists of nodes, paths and shapes, for any kind of node with a joining.
 #![tactic(auto)]
 
+mod blank;
 mod descent;
 mod following;
 mod group;

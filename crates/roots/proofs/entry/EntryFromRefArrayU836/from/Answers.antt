@@ -12,5 +12,5 @@ unfolding made
 returns c =
     let raw : List ℕ = c.args.raw.now in
     let first = rw c.unwrap-root.ensures at c.first_chunk.ensures.cases in
-    let bytes : c.of.result.bytes ≡ take 32 (drop 4 raw) = c.of.ensures ∙ first.same ∙ take-take 32 32 (drop 4 raw) (omega arith) in
-    ap₂ made c.second.ensures (sym (digest_is c.of.result (drop 4 raw) bytes))
+    let bytes : c.from.result.bytes ≡ take 32 (drop 4 raw) = c.from.ensures ∙ first.same ∙ take-take 32 32 (drop 4 raw) (omega arith) in
+    ap₂ made c.second.ensures (sym (digest_is c.from.result (drop 4 raw) bytes))

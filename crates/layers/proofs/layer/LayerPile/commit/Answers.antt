@@ -1,0 +1,61 @@
+use Rattle.std.proofs.Common.{◌≡◌, ℕ, List, length, Ok, sym, ap, ◌∙◌, subst, arith, rules}
+use Rattle.digest.specs.declared.value.Digest.{Digest}
+use Rattle.pile.specs.Meaning.{Meaning, Law, EmptyLaw}
+use Rattle.pile.specs.Answers.{committed}
+use Rattle.pile.proofs.Answered.{served}
+use Rattle.layers.specs.Layered.{layered_meaning, layered_seal}
+use Rattle.layers.proofs.Ways.{no_refusal}
+use Rattle.layers.proofs.Layers.{lowered_fits, layered_after, layered_law, layered_empty}
+use Rattle.layers.proofs.layer.LayerPile.commit.Goals as goal
+
+pub returns : goal.returns
+returns g c =
+    let digested = g.P.Digester.Hash.digested in
+    let p = c.args.self.now in
+    let second : ℕ = c.seconds-second.result in
+    let w = g.K.Kind.lowering p.kind digested second in
+    let laws = c.lawful.ensures.lowers p.kind digested second in
+    let items : List Digest = c.args.list.now in
+    let m : Meaning = g.P.Pile.meaning p.below in
+    let before = g.K.Kind.lowering p.kind digested p.second in
+    let seal = g.P.Pile.seal p.below in
+    let next : Meaning = g.P.Pile.meaning c.commit.new.self in
+    let down : List Digest = c.deref.result.now in
+    let same : c.in_ok-list.list.items ≡ items = search rules in
+    let lower : down ≡ w.lowered items = c.deref.ensures.0 ∙ (c.lower-lowered.ensures ∙ ap w.lowered same) in
+    let below : next ≡ committed m (w.lowered items) (seal (w.lowered items)) (Ok tt) =
+    c.commit.ensures.after
+    ∙ (ap (committed m down (seal down)) c.in_ok-commit.was ∙ ap (λ xs. committed m xs (seal xs) (Ok tt)) lower) in
+    let kept = ap (λ xs. layered_meaning w xs next) same in
+    let round : next.round ≡ w.lowered items = ap (λ (x : Meaning). x.round) below in
+    record {
+      outcome = sym (served (layered_meaning before p.list.items m) items (omega (arith, ap length same)) (omega arith));
+      after =
+          kept
+          ∙ (ap (layered_meaning w items) below
+          ∙ (layered_after laws (c.lawful.ensures.lowers p.kind digested p.second) m items (seal (w.lowered items)) p.list.items
+          ∙ ap
+          (λ s.
+          let v = g.K.Kind.lowering p.kind digested s in
+          committed (layered_meaning before p.list.items m) items (layered_seal v items (seal (v.lowered items))) (Ok tt))
+          c.seconds-second.ensures.value));
+      law = λ _. subst (Law digested) (sym kept) (layered_law laws next items round (c.commit.ensures.law c.in_ok-commit.was));
+      empty = λ _. subst (EmptyLaw digested) (sym kept) (layered_empty laws next items round (c.commit.ensures.empty c.in_ok-commit.was));
+    }
+
+pub returns-in_err-commit : goal.returns-in_err-commit
+returns-in_err-commit g c =
+    let digested = g.P.Digester.Hash.digested in
+    let items : List Digest = c.args.list.now in
+    let p = c.args.self.now in
+    let second : ℕ = c.seconds-second.result in
+    let w = g.K.Kind.lowering p.kind digested second in
+    let laws = c.lawful.ensures.lowers p.kind digested second in
+    let earlier = c.lawful.ensures.lowers p.kind digested p.second in
+    let m : Meaning = g.P.Pile.meaning p.below in
+    let down : List Digest = c.deref.result.now in
+    let same : c.in_ok-list.list.items ≡ items = search rules in
+    let lower : down ≡ w.lowered items = c.deref.ensures.0 ∙ (c.lower-lowered.ensures ∙ ap w.lowered same) in
+    let fits = lowered_fits laws m items (omega (arith, ap length same, laws.covers m.most, earlier.covers m.most)) in
+    let ok = served m down (omega (arith, ap length lower)) (omega arith) in
+    no_refusal c.commit.result _ (c.commit.ensures.outcome ∙ ok) c.in_err-commit.was

@@ -1,0 +1,84 @@
+// A layer over a pile, of any kind: it keeps the list of the last round, at most 256 digests, and sends down what its kind makes of it.
+ghost use Rattle.std.specs.Prelude.{◌≡◌, length};
+ghost use Rattle.layers.specs.Layered.{layered_meaning, layered_seal};
+
+use crate::behind::behind;
+use crate::kind::{Items, Kind};
+use digest::Digest;
+use pile::{CommitRefusal, Pile, WayRefusal};
+use tree::Link;
+
+#[derive(Drop)]
+pub struct Layer<P, K> {
+    pub(crate) below: P,
+    pub(crate) kind: K,
+    pub(crate) second: u32,
+    pub(crate) list: Items,
+}
+
+impl<P: Pile, K: Kind> Pile for Layer<P, K> {
+    type Digester = P::Digester;
+
+    ghost meaning = { λ p. layered_meaning (K.lowering p.kind P.Digester.Hash.digested p.second) p.list.items (P.Pile.meaning p.below) };
+
+    ghost seal = { λ p items.
+        let w = K.lowering p.kind P.Digester.Hash.digested (length (P.Pile.meaning p.below).row) in
+        layered_seal w items (P.Pile.seal p.below (w.lowered items)) };
+
+    fn commit(&mut self, list: &[Digest]) -> Result<(), CommitRefusal> {
+        K::lawful();
+        let list = Items::try_from(list).map_err(|_| CommitRefusal::TooMany)?;
+        if list.len() > self.most() {
+            return Err(CommitRefusal::TooMany);
+        }
+        let second = self.below.seconds();
+        if second >= self.below.span() {
+            return Err(CommitRefusal::Full);
+        }
+        let lowered = self.kind.lower::<P::Digester>(second, &list);
+        self.below.commit(&lowered)?;
+        self.second = second;
+        self.list = list;
+        Ok(())
+    }
+
+    fn seconds(&self) -> u32 {
+        self.below.seconds()
+    }
+
+    fn second(&self, second: u32) -> Option<Digest> {
+        self.below.second(second)
+    }
+
+    fn way_length(&self, place: usize) -> Option<u8> {
+        K::lawful();
+        let front = self
+            .kind
+            .front::<P::Digester>(self.second, &self.list, place)?;
+        let rest = self.below.way_length(place / K::WIDTH)?;
+        Some(rest.saturating_add(front.len() as u8))
+    }
+
+    fn way(&self, place: usize, links: &mut [Link<Digest>]) -> Result<usize, WayRefusal> {
+        K::lawful();
+        let front = self
+            .kind
+            .front::<P::Digester>(self.second, &self.list, place)
+            .ok_or(WayRefusal::Absent)?;
+        behind(&self.below, place / K::WIDTH, &front, links)
+    }
+
+    fn most(&self) -> usize {
+        K::lawful();
+        self.below.most().saturating_mul(K::WIDTH).min(256)
+    }
+
+    fn span(&self) -> u32 {
+        self.below.span()
+    }
+
+    fn deepest(&self) -> u8 {
+        K::lawful();
+        self.below.deepest().saturating_add(K::LINKS)
+    }
+}
