@@ -4,7 +4,7 @@ use lib.Bits.{bit_and, bit_xor}
 use Rattle.std.specs.List.{fold}
 use Rattle.std.proofs.lemmas.List.{take_more}
 use Rattle.std.proofs.lemmas.List.Sums.{fold-append}
-use Rattle.std.proofs.lemmas.List.FromFn.{fill_by_all, length-map-range_with_len, get_or-map-range_with_len}
+use Rattle.std.proofs.lemmas.List.FromFn.{fill_by_all, get_or-map-range_with_len}
 use Rattle.sha3.specs.Keccak.{place, lane, lanes, rotl, complement, parity, effect, parities, effects, offsets, packed, constants, first_added, θ, ρ, π, χ, ι, Rnd, rounds, keccak_f}
 
 -- the lane of a column and a row
@@ -17,10 +17,6 @@ lane_at a x y i e =
 pub same_lane : (a : List ℕ) (u v x y : ℕ) → u % 5 ≡ x % 5 → v % 5 ≡ y % 5 → lane a u v ≡ lane a x y
 unfolding lane place
 same_lane a u v x y e f = ap₂ (λ p q. get_or a (p + 5 * q) 0) e f
-
-pub length_lanes : (f : ℕ → ℕ → ℕ) → length (lanes f) ≡ 25
-unfolding lanes
-length_lanes f = length-map-range_with_len (λ i. f (i % 5) (i / 5)) 0 25
 
 pub get_or_lanes : (f : ℕ → ℕ → ℕ) (x y : ℕ) → x < 5 → y < 5 → get_or (lanes f) (5 * y + x) 0 ≡ f x y
 unfolding lanes

@@ -39,6 +39,7 @@ const CONSTANTS: [u64; 24] = [
 ];
 
 // Where the lane of column x and row y stands; both count modulo 5.
+#[tactic(auto, unfolding(crate::specs::Keccak::place))]
 fn place(x: usize, y: usize) -> usize
     ensures value { result ≡ place x y }
     ensures within { result < 25 }
@@ -47,6 +48,7 @@ fn place(x: usize, y: usize) -> usize
 }
 
 // The lane of column x and row y.
+#[tactic(auto, unfolding(crate::specs::Keccak::lane))]
 fn lane(a: &[u64; 25], x: usize, y: usize) -> u64
     ensures { result ≡ lane a.now x y }
 {

@@ -20,6 +20,7 @@ fn mix(mut a: [u64; 25], block: &[u8; RATE]) -> [u64; 25]
 }
 
 // The state after one block more.
+#[tactic(auto, unfolding(crate::specs::Sha3::absorb))]
 fn absorb(a: [u64; 25], block: &[u8; RATE]) -> [u64; 25]
     ensures { result ≡ absorb a block.now }
 {
