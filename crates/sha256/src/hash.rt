@@ -35,7 +35,7 @@ fn hashed(message: &[u8]) -> [u8; 32]
 }
 
 // SHA-256 as a hash, with the number 1.
-#[derive(Clone, Copy)]
+#[derive(Clone, Copy, Debug, PartialEq, Eq)]
 pub struct Sha256;
 
 impl Hash for Sha256 {

@@ -8,6 +8,7 @@ ghost use Rattle.sha256.specs.Words.{eight_bytes};
 const ROOM: usize = 56;
 
 // How many blocks the end of a message of `len` bytes takes.
+#[tactic(auto, unfolding(crate::specs::Tail::tail_blocks))]
 pub(crate) fn blocks(len: usize) -> usize
     ensures count { result ≡ tail_blocks len }
     ensures few { (1 ≤ result) × (result ≤ 2) }

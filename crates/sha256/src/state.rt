@@ -1,5 +1,5 @@
 // The eight words that a message is taken into.
-#[derive(Clone, Copy)]
+#[derive(Clone, Copy, Debug, PartialEq, Eq)]
 pub(crate) struct State {
     pub(crate) a: u32,
     pub(crate) b: u32,

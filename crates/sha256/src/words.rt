@@ -8,6 +8,7 @@ pub(crate) fn choose(x: u32, y: u32, z: u32) -> u32
     z ^ (x & (y ^ z))
 }
 
+#[tactic(auto, unfolding(crate::specs::Words::Maj))]
 pub(crate) fn majority(x: u32, y: u32, z: u32) -> u32
     ensures { result ≡ Maj x y z }
 {

@@ -1,6 +1,5 @@
 -- The padding: how the last block is made, and that it is the padded message's last block.
 use Rattle.std.proofs.Common.{◌≡◌, ℕ, suc, ◌+◌, ◌-◌, ◌*◌, ◌/◌, ◌%◌, ◌<◌, ◌≤◌, List, ◌∷◌, ◌++◌, length, get_or, drop, set, replicate, refl, ap, ◌∙◌, ap₂, arith}
-use native.Mathlib.Nat.{sub-zero}
 use lib.Bits.{bit_or}
 use Rattle.std.proofs.lemmas.List.{get_or-append_right, set-append_right, length-append, length-set, length-drop, length-replicate, drop-replicate, take_all}
 use Rattle.digest.specs.Blocks.{block}
@@ -47,17 +46,13 @@ padding_set rest h =
     ∙ (ap (λ (v : ℕ). rest ++ set (opened n) (135 - n) (bit_or v 0x80)) (get_or-append_right rest (opened n) n 135 0 refl (omega arith))
     ∙ ap (λ (j : ℕ). rest ++ set (opened n) j (bit_or (get_or (opened n) j 0) 0x80)) last)
 
--- the zeros that a copy of n bytes leaves of m
-pub zeros_left : (m n : ℕ) → drop {A = ℕ} (n - 0) (replicate m 0) ≡ replicate (m - n) 0
-zeros_left m n = ap (λ (k : ℕ). drop {A = ℕ} k (replicate m 0)) (sub-zero n) ∙ drop-replicate n m 0
-
 -- the last block, as it is made from a copy of what is left of the message, and zeros
-pub last_made : (rest copy zeros : List ℕ) → length rest < 136 → copy ≡ rest → zeros ≡ replicate (136 - length rest) 0
-    → let xs : List ℕ = copy ++ zeros in
+pub last_made : (rest copy : List ℕ) → length rest < 136 → copy ≡ rest
+    → let xs : List ℕ = copy ++ drop (length rest) (replicate 136 0) in
     set (set xs (length rest) 0x06) 135 (bit_or (get_or (set xs (length rest) 0x06) 135 0) 0x80) ≡ rest ++ padding (length rest)
-last_made rest copy zeros h e f =
+last_made rest copy h e =
     let n : ℕ = length rest in
-    ap (λ ys. set (set ys n 0x06) 135 (bit_or (get_or (set ys n 0x06) 135 0) 0x80)) (ap₂ ◌++◌ e f)
+    ap (λ ys. set (set ys n 0x06) 135 (bit_or (get_or (set ys n 0x06) 135 0) 0x80)) (ap₂ ◌++◌ e (drop-replicate n 136 0))
     ∙ (ap (λ ys. set ys 135 (bit_or (get_or ys 135 0) 0x80)) (opened_set rest h) ∙ padding_set rest h)
 
 -- the padded message's last block

@@ -1,8 +1,11 @@
 -- What stands at each place of a state after a step of the permutation.
-use Rattle.std.proofs.Common.{◌≡◌, ℕ, ◌+◌, ◌*◌, ◌/◌, ◌%◌, ◌<◌, List, length, get_or, refl, ap, ◌∙◌, ap₂, add-one, arith}
+use Rattle.std.proofs.Common.{◌≡◌, ℕ, ◌+◌, ◌*◌, ◌/◌, ◌%◌, ◌<◌, zero, suc, ◌≤◌, List, [], ◌∷◌, ◌++◌, length, take, get_or, refl, ap, ◌∙◌, ap₂, add-one, arith}
 use lib.Bits.{bit_and, bit_xor}
-use Rattle.std.proofs.lemmas.List.FromFn.{get_or-map-range_with_len, length-map-range_with_len}
-use Rattle.sha3.specs.Keccak.{place, lane, lanes, rotl, complement, parity, effect, parities, effects, offsets, θ, ρ, π, χ, Rnd, rounds}
+use Rattle.std.specs.List.{fold}
+use Rattle.std.proofs.lemmas.List.{take_more}
+use Rattle.std.proofs.lemmas.List.Sums.{fold-append}
+use Rattle.std.proofs.lemmas.List.FromFn.{fill_by_all, get_or-map-range_with_len}
+use Rattle.sha3.specs.Keccak.{place, lane, lanes, rotl, complement, parity, effect, parities, effects, offsets, packed, constants, first_added, θ, ρ, π, χ, ι, Rnd, rounds, keccak_f}
 
 -- the lane of a column and a row
 pub lane_at : (a : List ℕ) (x y i : ℕ) → 5 * (y % 5) + x % 5 ≡ i → lane a x y ≡ get_or a i 0
@@ -15,10 +18,6 @@ pub same_lane : (a : List ℕ) (u v x y : ℕ) → u % 5 ≡ x % 5 → v % 5 ≡
 unfolding lane place
 same_lane a u v x y e f = ap₂ (λ p q. get_or a (p + 5 * q) 0) e f
 
-pub length_lanes : (f : ℕ → ℕ → ℕ) → length (lanes f) ≡ 25
-unfolding lanes
-length_lanes f = length-map-range_with_len (λ i. f (i % 5) (i / 5)) 0 25
-
 pub get_or_lanes : (f : ℕ → ℕ → ℕ) (x y : ℕ) → x < 5 → y < 5 → get_or (lanes f) (5 * y + x) 0 ≡ f x y
 unfolding lanes
 get_or_lanes f x y hx hy =
@@ -30,55 +29,22 @@ get_or_lanes f x y hx hy =
 pub lane_lanes : (f : ℕ → ℕ → ℕ) (x y : ℕ) → lane (lanes f) x y ≡ f (x % 5) (y % 5)
 lane_lanes f x y = lane_at (lanes f) x y (5 * (y % 5) + x % 5) refl ∙ get_or_lanes f (x % 5) (y % 5) (omega arith) (omega arith)
 
-pub length_parities : (a : List ℕ) → length (parities a) ≡ 5
-unfolding parities
-length_parities a = length-map-range_with_len (parity a) 0 5
+-- a state by its lanes
+pub lanes_made : (b : List ℕ) (f : ℕ → ℕ → ℕ) → length b ≡ 25
+    → ((x y : ℕ) → x < 5 → y < 5 → get_or b (place x y) 0 ≡ f x y) → b ≡ lanes f
+unfolding lanes place
+lanes_made b f whole each =
+    fill_by_all (λ i. f (i % 5) (i / 5)) b 25 0 whole
+    (λ k h.
+    let here : k % 5 % 5 + 5 * (k / 5 % 5) ≡ k = omega arith in
+    rw here at (each (k % 5) (k / 5) (omega arith) (omega arith)))
 
-pub parities_at : (a : List ℕ) (x : ℕ) → x < 5
-    → get_or (parities a) x 0 ≡ bit_xor (bit_xor (bit_xor (bit_xor (get_or a x 0) (get_or a (x + 5) 0)) (get_or a (x + 10) 0)) (get_or a (x + 15) 0)) (get_or a (x + 20) 0)
-unfolding parities parity
-parities_at a x h =
-    let e0 : lane a x 0 ≡ get_or a x 0 = lane_at a x 0 x (omega arith) in
-    let e1 : lane a x 1 ≡ get_or a (x + 5) 0 = lane_at a x 1 (x + 5) (omega arith) in
-    let e2 : lane a x 2 ≡ get_or a (x + 10) 0 = lane_at a x 2 (x + 10) (omega arith) in
-    let e3 : lane a x 3 ≡ get_or a (x + 15) 0 = lane_at a x 3 (x + 15) (omega arith) in
-    let e4 : lane a x 4 ≡ get_or a (x + 20) 0 = lane_at a x 4 (x + 20) (omega arith) in
-    get_or-map-range_with_len (parity a) 0 5 x x 0 h (omega arith) ∙ (cc)
-
-pub length_effects : (c : List ℕ) → length (effects c) ≡ 5
-unfolding effects
-length_effects c = length-map-range_with_len (effect c) 0 5
-
-pub effects_at : (c : List ℕ) (x : ℕ) → x < 5
-    → get_or (effects c) x 0 ≡ bit_xor (get_or c ((x + 4) % 5) 0) (rotl (get_or c ((x + 1) % 5) 0) 1)
-unfolding effects effect
-effects_at c x h = get_or-map-range_with_len (effect c) 0 5 x x 0 h (omega arith)
-
-pub length_θ : (a : List ℕ) → length (θ a) ≡ 25
-unfolding θ
-length_θ a = length_lanes _
-
-pub θ_at : (a : List ℕ) (x y : ℕ) → x < 5 → y < 5
-    → get_or (θ a) (5 * y + x) 0 ≡ bit_xor (get_or a (5 * y + x) 0) (get_or (effects (parities a)) x 0)
-unfolding θ
-θ_at a x y hx hy =
-    get_or_lanes _ x y hx hy ∙ ap (λ w. bit_xor w (get_or (effects (parities a)) x 0)) (lane_at a x y (5 * y + x) (omega arith))
-
-pub length_π : (a : List ℕ) → length (π a) ≡ 25
-unfolding π
-length_π a = length_lanes _
-
-pub πρ_at : (a : List ℕ) (x y : ℕ) → x < 5 → y < 5
-    → get_or (π (ρ a)) (5 * y + x) 0 ≡ rotl (get_or a (5 * x + (x + 3 * y) % 5) 0) (get_or offsets (5 * x + (x + 3 * y) % 5) 0)
-unfolding π ρ
-πρ_at a x y hx hy =
-    let from : ℕ = 5 * x + (x + 3 * y) % 5 in
-    let u : ℕ = (x + 3 * y) % 5 in
-    let v : ℕ = x % 5 in
-    let stood : 5 * (v % 5) + u % 5 ≡ from = omega arith in
-    let fetched : lane a u v ≡ get_or a from 0 = lane_at a u v from stood in
-    let turned : lane offsets u v ≡ get_or offsets from 0 = lane_at offsets u v from stood in
-    get_or_lanes _ x y hx hy ∙ (lane_lanes _ (x + 3 * y) x ∙ (cc))
+pub ρ_at : (a : List ℕ) (x y : ℕ) → lane (ρ a) x y ≡ rotl (lane a x y) (lane offsets x y)
+unfolding ρ
+ρ_at a x y =
+    let moved : lane a (x % 5) (y % 5) ≡ lane a x y = same_lane a (x % 5) (y % 5) x y (omega arith) (omega arith) in
+    let turned : lane offsets (x % 5) (y % 5) ≡ lane offsets x y = same_lane offsets (x % 5) (y % 5) x y (omega arith) (omega arith) in
+    lane_lanes _ x y ∙ (cc)
 
 -- numbers that differ by fives
 pub fives : (a b c d : ℕ) → a + 5 * b ≡ c + 5 * d → a % 5 % 5 ≡ c % 5
@@ -96,19 +62,19 @@ unfolding π ρ
     let turned : lane offsets (u % 5) (v % 5) ≡ lane offsets x y = same_lane offsets (u % 5) (v % 5) x y column row in
     lane_lanes _ y (2 * x + 3 * y) ∙ (lane_lanes _ u v ∙ (cc))
 
-pub length_χ : (a : List ℕ) → length (χ a) ≡ 25
-unfolding χ
-length_χ a = length_lanes _
+-- a round, with its constant
+abbrev pub step : List ℕ → ℕ → List ℕ
+step a c = first_added c (χ (π (ρ (θ a))))
 
-pub χ_at : (a : List ℕ) (x y : ℕ) → x < 5 → y < 5
-    → get_or (χ a) (5 * y + x) 0 ≡ bit_xor (get_or a (5 * y + x) 0) (bit_and (complement (get_or a (5 * y + (x + 1) % 5) 0)) (get_or a (5 * y + (x + 2) % 5) 0))
-unfolding χ
-χ_at a x y hx hy =
-    let e0 : lane a x y ≡ get_or a (5 * y + x) 0 = lane_at a x y (5 * y + x) (omega arith) in
-    let e1 : lane a (x + 1) y ≡ get_or a (5 * y + (x + 1) % 5) 0 = lane_at a (x + 1) y (5 * y + (x + 1) % 5) (omega arith) in
-    let e2 : lane a (x + 2) y ≡ get_or a (5 * y + (x + 2) % 5) 0 = lane_at a (x + 2) y (5 * y + (x + 2) % 5) (omega arith) in
-    get_or_lanes _ x y hx hy ∙ (cc)
+-- the first n rounds
+rounds_are : (a : List ℕ) (n : ℕ) → n ≤ length constants → fold step a (take n constants) ≡ rounds n a
+unfolding rounds Rnd ι
+rounds_are a zero h = refl
+rounds_are a (suc n) h =
+    let more : take (suc n) constants ≡ take n constants ++ get_or constants n 0 ∷ [] = rw (← add-one n) (take_more constants n 0 h) in
+    ap (fold step a) more ∙ fold-append step a (take n constants) (get_or constants n 0 ∷ [])
+    ∙ ap (λ (b : List ℕ). step b (get_or constants n 0)) (rounds_are a n (omega arith))
 
-pub rounds_more : (k : ℕ) (a : List ℕ) → rounds (k + 1) a ≡ Rnd k (rounds k a)
-unfolding rounds
-rounds_more k a = ap (λ n. rounds n a) (add-one k)
+pub rounds_all : (a : List ℕ) → fold step a constants ≡ keccak_f a
+unfolding keccak_f constants packed
+rounds_all a = rounds_are a 24 (omega arith)

@@ -80,9 +80,13 @@ unpacked (suc j) b = unpacked j b + b / 2 ^ j % 2 * 2 ^ (2 ^ j - 1)
 unfoldable pub constants : List ℕ
 constants = map (unpacked 7) packed
 
+-- a number added to the first lane
+unfoldable pub first_added : ℕ → List ℕ → List ℕ
+first_added c a = slice_set a (place 0 0) (bit_xor (lane a 0 0) c)
+
 -- ι adds the constant of round k to the first lane
 unfoldable pub ι : ℕ → List ℕ → List ℕ
-ι k a = slice_set a (place 0 0) (bit_xor (lane a 0 0) (slice_index constants k))
+ι k a = first_added (slice_index constants k) a
 
 -- round k
 unfoldable pub Rnd : ℕ → List ℕ → List ℕ

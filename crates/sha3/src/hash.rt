@@ -6,7 +6,7 @@ use crate::sponge::{sponge, squeeze};
 use digest::{Digest, Hash, LONGEST, Refusal};
 
 // The hash SHA3-256.
-#[derive(Clone, Copy)]
+#[derive(Clone, Copy, Debug, PartialEq, Eq)]
 pub struct Sha3;
 
 impl Hash for Sha3 {

@@ -1,7 +1,9 @@
 // The permutation KECCAK-f[1600] on 25 lanes of 64 bits, the lane of column x and row y at x + 5y.
-ghost use Rattle.std.specs.Prelude.{◌≡◌, ℕ, ◌+◌, ◌*◌, ◌<◌, slice_index};
+ghost use Rattle.std.specs.Prelude.{◌≡◌, ℕ, ◌+◌, ◌*◌, ◌<◌, length, slice_index};
 ghost use Rattle.sha3.specs.Tables.{rotation_of, constant_of};
-ghost use Rattle.sha3.specs.Keccak.{lane, rotl, parities, effects, θ, ρ, π, χ, Rnd, keccak_f, offsets, constants};
+ghost use Rattle.sha3.specs.Keccak.{place, lane, rotl, parities, effects, θ, ρ, π, χ, first_added, keccak_f, offsets};
+
+use std::array;
 
 // How far ρ rotates each lane.
 const OFFSETS: [u32; 25] = [
@@ -36,75 +38,82 @@ const CONSTANTS: [u64; 24] = [
     0x8000000080008008,
 ];
 
-// The offset of lane i.
-fn offset(i: usize) -> u32
-    requires { i < 25 }
-    ensures { result ≡ slice_index offsets i }
+// Where the lane of column x and row y stands; both count modulo 5.
+#[tactic(auto, unfolding(crate::specs::Keccak::place))]
+fn place(x: usize, y: usize) -> usize
+    ensures value { result ≡ place x y }
+    ensures within { result < 25 }
 {
-    OFFSETS[i]
+    x % 5 + 5 * (y % 5)
 }
 
-// The constant of round k.
-fn constant(k: usize) -> u64
-    requires { k < 24 }
-    ensures { result ≡ slice_index constants k }
+// The lane of column x and row y.
+#[tactic(auto, unfolding(crate::specs::Keccak::lane))]
+fn lane(a: &[u64; 25], x: usize, y: usize) -> u64
+    ensures { result ≡ lane a.now x y }
 {
-    CONSTANTS[k]
+    a[place(x, y)]
+}
+
+// The offset of the lane of column x and row y.
+fn offset(x: usize, y: usize) -> u32
+    ensures { result ≡ lane offsets x y }
+{
+    OFFSETS[place(x, y)]
 }
 
 // How far ρ rotates the lane of column x and row y, or none where there is no such lane.
 pub fn rotation(x: usize, y: usize) -> Option<u32>
     ensures { result ≡ rotation_of x y }
 {
-    if x < 5 && y < 5 {
-        Some(offset(x + 5 * y))
-    } else {
-        None
-    }
+    (x < 5 && y < 5).then(|| offset(x, y))
 }
 
 // What ι adds in round k, or none past the last round.
 pub fn round_constant(k: usize) -> Option<u64>
     ensures { result ≡ constant_of k }
 {
-    if k < 24 { Some(constant(k)) } else { None }
+    CONSTANTS.get(k).copied()
+}
+
+// The state whose lane of column x and row y is what f answers for them.
+fn lanes<F: Fn(usize, usize) -> u64>(f: F) -> [u64; 25]
+    requires { (x y : ℕ) → x < 5 → y < 5 → F.pre f x y }
+    ensures whole { length result ≡ 25 }
+    ensures each { (x y : ℕ) → x < 5 → y < 5 → F.post f x y (slice_index result (place x y)) }
+{
+    let mut b = [0; 25];
+    // One loop over the 25 places is not unrolled, and the hash then takes 7.4 times as long.
+    for y in 0..5 {
+        for x in 0..5 {
+            b[place(x, y)] = f(x, y);
+        }
+    }
+    b
 }
 
 // The xor of each column.
 fn parities(a: &[u64; 25]) -> [u64; 5]
     ensures { result ≡ parities a.now }
 {
-    let mut c = [0; 5];
-    for x in 0..5 {
-        c[x] = a[x] ^ a[x + 5] ^ a[x + 10] ^ a[x + 15] ^ a[x + 20];
-    }
-    c
+    array::from_fn(|x| {
+        lane(a, x, 0) ^ lane(a, x, 1) ^ lane(a, x, 2) ^ lane(a, x, 3) ^ lane(a, x, 4)
+    })
 }
 
 // What θ adds to each lane of a column.
 fn effects(c: &[u64; 5]) -> [u64; 5]
     ensures { result ≡ effects c.now }
 {
-    let mut d = [0; 5];
-    for x in 0..5 {
-        d[x] = c[(x + 4) % 5] ^ c[(x + 1) % 5].rotate_left(1);
-    }
-    d
+    array::from_fn(|x| c[(x + 4) % 5] ^ c[(x + 1) % 5].rotate_left(1))
 }
 
 // θ: each column gets its effect.
 fn theta(a: &[u64; 25]) -> [u64; 25]
     ensures { result ≡ θ a.now }
 {
-    let c = parities(a);
-    let d = effects(&c);
-    let mut b = [0; 25];
-    for y in 0..5 {
-        for x in 0..5 {
-            b[5 * y + x] = a[5 * y + x] ^ d[x];
-        }
-    }
-    b
+    let d = effects(&parities(a));
+    lanes(|x, y| lane(a, x, y) ^ d[x])
 }
 
 // ρ, then π: each lane is fetched from where it stood, and rotated.
@@ -112,48 +121,28 @@ fn rho_pi(a: &[u64; 25]) -> [u64; 25]
     ensures state { result ≡ π (ρ a.now) }
     ensures moves { (x y : ℕ) → lane result y (2 * x + 3 * y) ≡ rotl (lane a.now x y) (lane offsets x y) }
 {
-    let mut b = [0; 25];
-    for y in 0..5 {
-        for x in 0..5 {
-            let from = 5 * x + (x + 3 * y) % 5;
-            b[5 * y + x] = a[from].rotate_left(offset(from));
-        }
-    }
-    b
+    lanes(|x, y| lane(a, x + 3 * y, x).rotate_left(offset(x + 3 * y, x)))
 }
 
 // χ: each lane gets the `and` of the next one of its row, turned over, and the one after that.
 fn chi(a: &[u64; 25]) -> [u64; 25]
     ensures { result ≡ χ a.now }
 {
-    let mut b = [0; 25];
-    for y in 0..5 {
-        for x in 0..5 {
-            b[5 * y + x] = a[5 * y + x] ^ (!a[5 * y + (x + 1) % 5] & a[5 * y + (x + 2) % 5]);
-        }
-    }
-    b
+    lanes(|x, y| lane(a, x, y) ^ (!lane(a, x + 1, y) & lane(a, x + 2, y)))
 }
 
-// Round k.
-fn round(a: &[u64; 25], k: usize) -> [u64; 25]
-    requires { k < 24 }
-    ensures { result ≡ Rnd k a.now }
+// A round, with its constant.
+fn round(a: [u64; 25], constant: u64) -> [u64; 25]
+    ensures { result ≡ first_added constant (χ (π (ρ (θ a)))) }
 {
-    let t = theta(a);
-    let p = rho_pi(&t);
-    let mut b = chi(&p);
-    b[0] ^= constant(k);
+    let mut b = chi(&rho_pi(&theta(&a)));
+    b[0] ^= constant;
     b
 }
 
 // All 24 rounds.
-pub(crate) fn permute(a: &[u64; 25]) -> [u64; 25]
-    ensures { result ≡ keccak_f a.now }
+pub(crate) fn permute(a: [u64; 25]) -> [u64; 25]
+    ensures { result ≡ keccak_f a }
 {
-    let mut b = *a;
-    for k in 0..24 {
-        b = round(&b, k);
-    }
-    b
+    CONSTANTS.iter().copied().fold(a, round)
 }

@@ -1,14 +1,8 @@
-use Rattle.std.proofs.Common.{sym, arith}
-use Rattle.sha3.specs.Keccak.{complement}
-use Rattle.sha3.proofs.Filled.{filled_more, filled_all}
-use Rattle.sha3.proofs.Steps.{length_χ, χ_at}
+use Rattle.std.proofs.Common.{rules}
+use Rattle.sha3.specs.Keccak.{χ, complement}
+use Rattle.sha3.proofs.Steps.{lanes_made}
 use Rattle.sha3.proofs.permutation.chi.Goals as goal
 
-pub loop-x-preserved : goal.loop-x-preserved
-unfolding complement
-loop-x-preserved c =
-    filled_more _ _ _ _ _ _ c.loop-x.invariant (omega arith) (omega arith)
-    (sym (χ_at c.args.a.now c.loop-x.x c.loop-y.y (omega arith) (omega arith)))
-
 pub returns : goal.returns
-returns c = filled_all _ _ _ _ (length_χ c.args.a.now) c.loop-y.invariant (omega arith)
+unfolding χ complement
+returns c = lanes_made c.lanes.result _ c.lanes.ensures.whole (λ x y hx hy. let e = c.lanes.ensures.each x y hx hy in search rules)

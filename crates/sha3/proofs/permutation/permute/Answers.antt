@@ -1,17 +1,12 @@
-use Rattle.std.proofs.Common.{◌≡◌, refl, ap, ◌∙◌, arith}
-use Rattle.sha3.specs.Keccak.{rounds, keccak_f}
-use Rattle.sha3.proofs.Steps.{rounds_more}
+use Rattle.std.proofs.Common.{rules, ◌∙◌}
+use Rattle.std.proofs.lemmas.Iterator.{YieldsList-from_slice}
+use Rattle.std.proofs.lemmas.Iterator.Consumers.{fold_from_yields_List, YieldsList-from_copied}
+use Rattle.sha3.specs.Keccak.{constants, packed, unpacked}
+use Rattle.sha3.proofs.Steps.{step, rounds_all}
 use Rattle.sha3.proofs.permutation.permute.Goals as goal
 
-pub loop-k-init : goal.loop-k-init
-unfolding rounds
-loop-k-init c = refl
-
-pub loop-k-preserved : goal.loop-k-preserved
-loop-k-preserved c = let e = rounds_more c.loop-k.k c.args.a.now in cc
-
 pub returns : goal.returns
-unfolding keccak_f
+unfolding constants packed unpacked
 returns c =
-    let all : c.loop-k.k ≡ 24 = omega arith in
-    c.loop-k.invariant ∙ ap (λ n. rounds n c.args.a.now) all
+    fold_from_yields_List _ step c.args.a c.fold.result c.fold.ensures.ran (YieldsList-from_copied (YieldsList-from_slice constants (cc))) (λ a x b q k. search rules)
+    ∙ rounds_all c.args.a

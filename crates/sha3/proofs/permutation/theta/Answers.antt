@@ -1,12 +1,14 @@
-use Rattle.std.proofs.Common.{arith}
-use Rattle.sha3.proofs.Filled.{filled_more, filled_all}
-use Rattle.sha3.proofs.Steps.{length_θ, θ_at}
+use Rattle.std.proofs.Common.{◌≡◌, get_or, rules}
+use lib.Bits.{bit_xor}
+use Rattle.sha3.specs.Keccak.{place, lane, θ}
+use Rattle.sha3.proofs.Steps.{lanes_made}
 use Rattle.sha3.proofs.permutation.theta.Goals as goal
 
-pub loop-x-preserved : goal.loop-x-preserved
-loop-x-preserved c =
-    filled_more _ _ _ _ _ _ c.loop-x.invariant (omega arith) (omega arith)
-    (let e = θ_at c.args.a.now c.loop-x.x c.loop-y.y (omega arith) (omega arith) in cc)
-
 pub returns : goal.returns
-returns c = filled_all _ _ _ _ (length_θ c.args.a.now) c.loop-y.invariant (omega arith)
+unfolding θ
+returns c =
+    lanes_made c.lanes.result _ c.lanes.ensures.whole
+    (λ x y hx hy.
+    let e = c.lanes.ensures.each x y hx hy in
+    let here : get_or c.lanes.result (place x y) 0 ≡ bit_xor (lane c.args.a.now x y) (get_or c.effects-d.result x 0) = search rules in
+    cc)

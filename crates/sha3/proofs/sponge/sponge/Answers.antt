@@ -1,21 +1,21 @@
-use Rattle.std.proofs.Common.{◌≡◌, ◌*◌, ◌/◌, length, refl, arith}
-use Rattle.std.proofs.lemmas.List.{take_rest}
-use Rattle.sha3.specs.Sha3.{blocks, sponge, soaked}
-use Rattle.sha3.proofs.Absorbed.{absorbed_front, absorbed_last}
+use Rattle.std.proofs.Common.{◌≡◌, List, ℕ, replicate, rules, ap, ◌∙◌}
+use Rattle.std.specs.List.{fold}
+use Rattle.std.proofs.lemmas.Iterator.{YieldsList-from_slice}
+use Rattle.std.proofs.lemmas.Iterator.Consumers.{fold_from_yields_List}
+use Rattle.sha3.specs.Sha3.{absorb}
+use Rattle.sha3.proofs.Absorbed.{soaked_is}
 use Rattle.sha3.proofs.Padding.{padded_whole}
 use Rattle.sha3.proofs.sponge.sponge.Goals as goal
 
-pub loop-n-init : goal.loop-n-init
-unfolding sponge
-loop-n-init c = refl
+pub returns-clause-state : goal.returns-clause-state
+returns-clause-state c =
+    let start : List ℕ = replicate 25 0 in
+    let cut = c.as_chunks.result.0.now in
+    let folded : c.fold-a.result ≡ fold absorb start cut =
+    fold_from_yields_List _ absorb start c.fold-a.result c.fold-a.ensures.ran (YieldsList-from_slice cut c.iter.ensures.rest) (λ a x b q k. search rules) in
+    c.absorb.ensures
+    ∙ ap (λ (s : List ℕ). absorb s c.last_block.result) (folded ∙ ap (fold absorb start) c.as_chunks.ensures.front)
+    ∙ soaked_is c.args.message.now c.as_chunks.result.1.now c.last_block.result c.as_chunks.ensures.back c.last_block.ensures
 
-pub loop-n-preserved : goal.loop-n-preserved
-loop-n-preserved c = let e = absorbed_front c.args.message.now c.loop-n.n (omega arith) in cc
-
-pub returns : goal.returns
-unfolding soaked blocks
-returns c =
-    let message = c.args.message.now in
-    let all : c.loop-n.n ≡ length message / 136 = omega arith in
-    let e = absorbed_last message _ (take_rest message (length message / 136 * 136)) in
-    record { state = cc; whole = padded_whole message }
+pub returns-clause-whole : goal.returns-clause-whole
+returns-clause-whole c = padded_whole c.args.message.now

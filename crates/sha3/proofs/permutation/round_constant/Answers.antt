@@ -1,0 +1,26 @@
+use Rattle.std.proofs.Common.{◌≡◌, ℕ, ◌<◌, ◌≤◌, List, inl, inr, Option, Some, None, get_or, refl, ◌∙◌, arith}
+use Rattle.std.specs.Borrow.{Bor}
+use Rattle.std.specs.List.{slice_get}
+use Rattle.std.specs.Option.{option_copied}
+use Rattle.std.specs.Slice.{IsItemAt}
+use Rattle.std.proofs.lemmas.Bool.{cases_lt, cond_above, cond_below}
+use Rattle.std.proofs.lemmas.Grind.{common_steps}
+use Rattle.std.proofs.lemmas.Option.{gets, slice_get-get_or, slice_get_past}
+use Rattle.sha3.specs.Keccak.{constants, packed, unpacked}
+use Rattle.sha3.specs.Tables.{constant_of}
+use Rattle.sha3.proofs.permutation.round_constant.Goals as goal
+
+copied_is : (xs : List ℕ) (i : ℕ) (r : Option (Bor ℕ)) → IsItemAt xs i r → option_copied r ≡ slice_get xs i
+copied_is xs i None h = grind (arith, common_steps, gets)
+copied_is xs i (Some x) h = grind (arith, common_steps, gets)
+
+constant_is : (k : ℕ) → slice_get constants k ≡ constant_of k
+unfolding constants packed
+constant_is k = elim (cases_lt k 24) [
+  | inl h ↦ slice_get-get_or constants k 0 h ∙ cond_below k 24 (Some (get_or constants k 0)) None h
+  | inr h ↦ slice_get_past constants k h ∙ cond_above k 24 (Some (get_or constants k 0)) None None h refl
+]
+
+pub returns : goal.returns
+unfolding constants packed unpacked
+returns c = c.copied.ensures ∙ copied_is constants c.args.k c.get.result c.get.ensures.lookup ∙ constant_is c.args.k
