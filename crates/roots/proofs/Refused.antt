@@ -29,3 +29,6 @@ module _ (entries : List Entry) (room : ℕ) where
 
       pub served : printed_length entries ≤ room → print_refusal entries room ≡ None
       served h = past_seconds ∙ passed _ _ Short (le-ltb room (printed_length entries) h)
+
+-- the tests in their order
+pub ruleset tests = (too_many, not_rising, too_short, served)

@@ -1,7 +1,8 @@
 -- Seconds that rise strictly, and the test of them.
-use Rattle.std.proofs.Common.{◌≡◌, ℕ, zero, suc, ◌+◌, ◌^◌, ◌<◌, ◌≤◌, true, false, ◌&&◌, ltb, leb, List, [], ◌∷◌, map, length, get_or, drop, sym, refl, ap, ◌∙◌, arith}
-use Rattle.std.proofs.lemmas.List.{drop_more, drop_all, length-map, get_or-map}
-use Rattle.std.proofs.lemmas.Bool.{and_parts, and_left, and_right, le-leb, lt-leb, lt-ltb, le-ltb, leb-true, ltb-true}
+use Rattle.std.proofs.Common.{◌≡◌, ℕ, zero, suc, ◌+◌, ◌^◌, ◌<◌, ◌≤◌, Bool, true, false, ◌&&◌, ltb, leb, List, [], ◌∷◌, map, length, get_or, sym, refl, ap, subst, ◌∙◌, inl, inr, arith}
+use Rattle.std.specs.List.{list_all, AllAdjacentBelow, IsAllAdjacentAnswer}
+use Rattle.std.proofs.lemmas.List.{length-map, get_or-map}
+use Rattle.std.proofs.lemmas.Bool.{cases_Bool, and_from, and_parts, le-leb, lt-ltb, leb-true, ltb-true, ltb-false}
 use Rattle.roots.specs.Entries.{rising}
 use Rattle.roots.specs.Laws.{RisingLaw}
 
@@ -12,44 +13,11 @@ module _ (low second : ℕ) (later : List ℕ) where
       ap (λ b. b && (ltb second (2 ^ 31) && rising (second + 1) later)) (le-leb low second h)
       ∙ ap (λ b. b && rising (second + 1) later) (lt-ltb second (2 ^ 31) k)
 
-  rising_below : second < low → rising low (second ∷ later) ≡ false
-  rising_below h = and_left (leb low second) (ltb second (2 ^ 31) && rising (second + 1) later) (lt-leb low second h)
-
-  rising_beyond : 2 ^ 31 ≤ second → rising low (second ∷ later) ≡ false
-  rising_beyond h =
-      and_right (leb low second) (ltb second (2 ^ 31) && rising (second + 1) later)
-      (and_left (ltb second (2 ^ 31)) (rising (second + 1) later) (le-ltb second (2 ^ 31) h))
-
   pub rising_parts : rising low (second ∷ later) ≡ true → (low ≤ second) × (second < 2 ^ 31) × (rising (second + 1) later ≡ true)
   rising_parts e =
       let p = and_parts (leb low second) (ltb second (2 ^ 31) && rising (second + 1) later) e in
       let q = and_parts (ltb second (2 ^ 31)) (rising (second + 1) later) p.1 in
       (leb-true low second p.0, ltb-true second (2 ^ 31) q.0, q.1)
-
--- the test, as a loop goes through what has the seconds
-module _ {X : Type 0} (second-of : X → ℕ) (items : List X) (i low : ℕ) where
-  pub ends : length items ≤ i → rising low (drop i (map second-of items)) ≡ true
-  ends h = ap (rising low) (drop_all i (map second-of items) (omega (arith, length-map items second-of)))
-
-  module _ (item : X) (second : ℕ) (here : i < length items) (at : item ≡ get_or items i item) (is : second ≡ second-of item) where
-    later : List ℕ
-    later = drop (i + 1) (map second-of items)
-
-    opened : rising low (drop i (map second-of items)) ≡ rising low (second ∷ later)
-    unfolding later
-    opened =
-        let value : get_or (map second-of items) i 0 ≡ second = get_or-map second-of items i item 0 here ∙ ap second-of (sym at) ∙ sym is in
-        ap (rising low) (drop_more (map second-of items) i 0 (omega (arith, length-map items second-of)) ∙ ap (λ s. s ∷ drop (i + 1) (map second-of items)) value)
-
-    pub goes_on : low ≤ second → second < 2 ^ 31 → rising (second + 1) (drop (i + 1) (map second-of items)) ≡ rising low (drop i (map second-of items))
-    unfolding later
-    goes_on h k = sym (opened ∙ rising_more low second later h k)
-
-    pub stops_below : second < low → rising low (drop i (map second-of items)) ≡ false
-    stops_below h = opened ∙ rising_below low second later h
-
-    pub stops_beyond : 2 ^ 31 ≤ second → rising low (drop i (map second-of items)) ≡ false
-    stops_beyond h = opened ∙ rising_beyond low second later h
 
 -- what the test says of each second
 pub at_least : (low : ℕ) (seconds : List ℕ) → rising low seconds ≡ true → (k : ℕ) → k < length seconds → low ≤ get_or seconds k 0
@@ -81,6 +49,62 @@ rises_from low (s ∷ later) least order bound =
     rising_more low s later (least 0 (omega arith)) (bound 0 (omega arith))
     ∙ rises_from (s + 1) later (λ k h. omega (arith, order 0 (suc k) (omega arith) (omega arith)))
     (λ i j h k. order (suc i) (suc j) (omega arith) (omega arith)) (λ i h. bound (suc i) (omega arith))
+
+-- the test by neighbours and by each second
+module _ {X : Type 0} (second_of : X → ℕ) where
+  abbrev pub earlier : X → X → Bool
+  earlier a b = ltb (second_of a) (second_of b)
+
+  abbrev pub in_time : X → Bool
+  in_time item = ltb (second_of item) (2 ^ 31)
+
+  next : (x : X) (later : List X) (k : ℕ) (d : X) → true ≡ earlier (get_or (x ∷ later) (suc k) d) (get_or (x ∷ later) (suc k + 1) d)
+      → true ≡ earlier (get_or later k d) (get_or later (k + 1) d)
+  next x later k d e =
+      let step : suc k + 1 ≡ suc (k + 1) = omega arith in
+      subst (λ n. true ≡ earlier (get_or later k d) (get_or (x ∷ later) n d)) step e
+
+  rises_by : (low : ℕ) (items : List X) → ((d : X) → 0 < length items → low ≤ second_of (get_or items 0 d))
+      → AllAdjacentBelow (λ a b. true ≡ earlier a b) items (length items) → list_all in_time items ≡ true
+      → rising low (map second_of items) ≡ true
+  rises_by low [] least order bound = refl
+  rises_by low (x ∷ later) least order bound =
+      let p = and_parts (in_time x) (list_all in_time later) bound in
+      rising_more low (second_of x) (map second_of later) (least x (omega arith)) (ltb-true _ _ p.0)
+      ∙ rises_by (second_of x + 1) later (λ d h. omega (arith, ltb-true _ _ (sym (order 0 d (omega arith))))) (λ k d h. next x later k d (order (suc k) d (omega arith))) p.1
+
+  timely : (low : ℕ) (items : List X) → rising low (map second_of items) ≡ true → list_all in_time items ≡ true
+  timely low [] e = refl
+  timely low (x ∷ later) e =
+      let p = rising_parts low (second_of x) (map second_of later) e in
+      and_from _ _ (lt-ltb _ _ p.1) (timely (second_of x + 1) later p.2)
+
+  unordered : (items : List X) (k : ℕ) → k + 1 < length items
+      → ((d : X) → false ≡ earlier (get_or items k d) (get_or items (k + 1) d)) → rising 0 (map second_of items) ≡ true → ⊥
+  unordered [] k h f e = omega arith
+  unordered (x ∷ later) k h f e =
+      let items : List X = x ∷ later in
+      omega (
+        arith,
+        strictly 0 (map second_of items) e k (k + 1) (omega arith) (omega (arith, length-map items second_of)),
+        get_or-map second_of items k x 0 (omega arith),
+        get_or-map second_of items (k + 1) x 0 h,
+        ltb-false _ _ (sym (f x)),
+      )
+
+  pub tested : (items : List X) (sorted all : Bool) → IsAllAdjacentAnswer (λ a b r. r ≡ earlier a b) items sorted → all ≡ list_all in_time items
+      → (sorted && all) ≡ rising 0 (map second_of items)
+  tested items true true order bound = sym (rises_by 0 items (λ d h. omega arith) order (sym bound))
+  tested items true false order late =
+      elim (cases_Bool (rising 0 (map second_of items))) [
+        | inl e ↦ late ∙ timely 0 items e ∙ sym e
+        | inr e ↦ sym e
+      ]
+  tested items false all (k, h, f) bound =
+      elim (cases_Bool (rising 0 (map second_of items))) [
+        | inl e ↦ absurd (unordered items k h f e)
+        | inr e ↦ sym e
+      ]
 
 pub rising_law : RisingLaw
 rising_law seconds =

@@ -17,13 +17,6 @@ pub(crate) trait Dated {
 pub(crate) fn rises<T: Dated>(items: &[T]) -> bool
     ensures { result ≡ rising 0 (map T.Dated.dated items.now) }
 {
-    let mut low = 0;
-    for item in items {
-        let second = item.second();
-        if second < low || second >= END {
-            return false;
-        }
-        low = second + 1;
-    }
-    true
+    items.is_sorted_by(|a, b| a.second() < b.second())
+        && items.iter().all(|item| item.second() < END)
 }

@@ -27,6 +27,7 @@ fn write_list(number: u8, entries: &[Entry], out: &mut [u8])
 }
 
 // Prints a list for a hash at the front of a buffer, and answers its length in bytes; a refusal changes nothing.
+#[tactic(auto, using(crate::proofs::Refused::tests))]
 pub fn print_list<H: Hash>(entries: &[Entry], out: &mut [u8]) -> Result<usize, PrintRefusal>
     ensures outcome { result ≡ print_answer entries.now (length out.old) }
     ensures after { out.new ≡ print_after H.Hash.numbered entries.now out.old }

@@ -1,3 +1,3 @@
 mod LaidOut
 mod Linked
-pub mod Refused
+mod Refused

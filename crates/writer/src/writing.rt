@@ -13,7 +13,7 @@ use layout::{HEAD, LINK, MOST_CALENDAR, MOST_ROUND, PUBLICATIONS};
 use token::WriteRefusal;
 use tree::Link;
 
-// A link in 33 bytes: its side, and the sibling.
+// A link in 33 bytes: its side, and the sibling. A `From` must stand in the crate of one of its types.
 fn raw(link: &Link<Digest>) -> [u8; 33]
     ensures { result ≡ link_bytes link.now }
 {
