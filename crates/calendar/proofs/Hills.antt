@@ -1,7 +1,8 @@
 -- Trees that stand side by side, taken apart and joined.
-use Rattle.std.proofs.Common.{◌≡◌, ℕ, zero, suc, ◌+◌, ◌-◌, ◌*◌, ◌/◌, ◌%◌, ◌^◌, ◌<◌, ◌≤◌, List, [], ◌∷◌, ◌++◌, length, get_or, take, set, Some, sym, refl, ap, ◌∙◌, subst, inl, inr, arith, pow_pos, pow_mono}
-use Rattle.std.proofs.lemmas.List.{append_assoc, length-append, length_push, length-take-le, take_at, drop_at, take_more, take_more_set, same_from_push}
+use Rattle.std.proofs.Common.{◌≡◌, reverse, ℕ, zero, suc, ◌+◌, ◌-◌, ◌*◌, ◌/◌, ◌%◌, ◌^◌, ◌<◌, ◌≤◌, List, [], ◌∷◌, ◌++◌, length, get_or, take, set, Some, sym, refl, ap, ◌∙◌, subst, inl, inr, arith, pow_pos}
+use Rattle.std.proofs.lemmas.List.{append_assoc, reverse-append, length-append, length_push, length-take-le, take_at, drop_at, take_more, take_more_set, same_from_push}
 use Rattle.std.proofs.lemmas.Bool.{cases_lt}
+use Rattle.std.specs.List.{fold, reduce}
 use Rattle.tree.specs.Split.{Splits, split}
 use Rattle.tree.specs.Trees.{root}
 use Rattle.tree.proofs.Splits.{split_splits, splits_unique, twice}
@@ -37,17 +38,6 @@ pub record Last {N : Type 0} (join : N → N → N) (h c : ℕ) (peaks nodes : L
   pub peaks_are : peaks ≡ before ++ peak ∷ []
   pub nodes_are : nodes ≡ early ++ late
 
--- trees of 2 ^ h nodes and more, the last of them with the root `peak`
-pub record Lowest {N : Type 0} (join : N → N → N) (h : ℕ) (before : List N) (peak : N) (nodes : List N) : Type 0 where
-  pub height : ℕ
-  pub count : ℕ
-  pub early : List N
-  pub late : List N
-  pub taller : h ≤ height
-  pub stands : Stands join (suc height) count before early
-  pub perfect : Perfect join height late peak
-  pub nodes_are : nodes ≡ early ++ late
-
 -- while a node is fed: trees, and behind them one tree that is still to be joined or put down
 pub record Carried {N : Type 0} (join : N → N → N) (peaks : List N) (count top rest : ℕ) (peak : N) (nodes : List N) : Type 0 where
   pub height : ℕ
@@ -58,19 +48,6 @@ pub record Carried {N : Type 0} (join : N → N → N) (peaks : List N) (count t
   pub perfect : Perfect join height late peak
   pub nodes_are : nodes ≡ early ++ late
   pub closes : (qs : List N) → Stands join height (rest + 1) qs nodes → Stands join 0 (count + 1) qs nodes
-
--- while the root is made: trees, and behind them the root of the other nodes, no more than the last tree has
-pub record Hung {N : Type 0} (join : N → N → N) (peaks : List N) (top : ℕ) (peak : N) (nodes : List N) : Type 0 where
-  pub height : ℕ
-  pub count : ℕ
-  pub early : List N
-  pub late : List N
-  pub within : top ≤ length peaks
-  pub stands : Stands join height count (take top peaks) early
-  pub some : 1 ≤ length late
-  pub most : length late ≤ 2 ^ height
-  pub root_is : root join late ≡ Some peak
-  pub nodes_are : nodes ≡ early ++ late
 
 module _ {N : Type 0} (join : N → N → N) where
   -- a perfect tree and at most as many nodes behind it
@@ -119,40 +96,6 @@ module _ {N : Type 0} (join : N → N → N) where
         nodes_are = q;
       }
 
-  pub last_tree : {h n : ℕ} {peaks nodes : List N} → Stands join h n peaks nodes → (before : List N) (y : N) → peaks ≡ before ++ y ∷ []
-      → Lowest join h before y nodes
-  last_tree bare before y e = absurd (nothing_pushed before y e)
-  last_tree (even c is above) before y e =
-      let l = last_tree above before y e in
-      record {
-        height = l.height;
-        count = l.count;
-        early = l.early;
-        late = l.late;
-        taller = omega (arith, l.taller);
-        stands = l.stands;
-        perfect = l.perfect;
-        nodes_are = l.nodes_are;
-      }
-  last_tree {h} (odd c others early late x is above perfect p q) before y e =
-      let same = same_from_push others before x y (sym p ∙ e) in
-      record {
-        height = h;
-        count = c;
-        early = early;
-        late = late;
-        taller = omega arith;
-        stands = subst (λ ps. Stands join (suc h) c ps early) same.0 above;
-        perfect = subst (λ z. Perfect join h late z) same.1 perfect;
-        nodes_are = q;
-      }
-
-  -- no trees over no nodes
-  pub no_trees : {h n : ℕ} {peaks nodes : List N} → Stands join h n peaks nodes → peaks ≡ [] → nodes ≡ []
-  no_trees bare e = refl
-  no_trees (even c is above) e = no_trees above e
-  no_trees (odd c before early late y is above perfect p q) e = absurd (nothing_pushed before y (sym e ∙ p))
-
   -- no more trees than digits
   pub few : {h n : ℕ} {peaks nodes : List N} → Stands join h n peaks nodes → (k : ℕ) → n < 2 ^ k → length peaks ≤ k
   few bare k b = omega arith
@@ -180,32 +123,6 @@ module _ {N : Type 0} (join : N → N → N) where
     pub room : forest.count < 2 ^ 31 → forest.top < 32
     room below =
         omega (arith, few holds.3 31 below, length-take-le forest.top forest.peaks (omega (arith, holds.0, holds.1)), holds.1)
-
-    -- trees where there are nodes
-    pub hang_some : 0 < forest.count → 1 ≤ forest.top
-    hang_some some =
-        elim (cases_lt 0 forest.top) [
-          | inl h ↦ h
-          | inr none ↦
-              let no : forest.top ≡ 0 = omega arith in
-              absurd (omega (arith, ap length (no_trees holds.3 (ap (λ m. take m forest.peaks) no)), holds.2))
-        ]
-
-    pub hang_none : 0 < forest.count → (d : N) → Hung join forest.peaks (forest.top - 1) (get_or forest.peaks (forest.top - 1) d) nodes
-    hang_none some d =
-        let l = last_tree holds.3 (take (forest.top - 1) forest.peaks) (get_or forest.peaks (forest.top - 1) d) (front_last forest.peaks forest.top d (hang_some some) (omega (arith, holds.0, holds.1))) in
-        record {
-          height = suc l.height;
-          count = l.count;
-          early = l.early;
-          late = l.late;
-          within = omega (arith, holds.0, holds.1);
-          stands = l.stands;
-          some = omega (arith, l.perfect.0, pow_pos l.height);
-          most = omega (arith, l.perfect.0, twice l.height);
-          root_is = l.perfect.1;
-          nodes_are = l.nodes_are;
-        }
 
   -- what was carried is joined with the last tree
   module _ {peaks : List N} {count top rest : ℕ} {peak : N} {nodes : List N} (carried : Carried join peaks count top rest peak nodes) where
@@ -245,28 +162,26 @@ module _ {N : Type 0} (join : N → N → N) where
         carried.closes (take (top + 1) (set peaks top peak))
         (odd (rest / 2) (take top peaks) carried.early carried.late peak (omega arith) above carried.perfect (take_more_set peaks top peak room) carried.nodes_are)
 
-  module _ {peaks : List N} {top : ℕ} {peak : N} {nodes : List N} (hung : Hung join peaks top peak nodes) where
-    pub hang_more : 0 < top → (d : N) → Hung join peaks (top - 1) (join (get_or peaks (top - 1) d) peak) nodes
-    hang_more some d =
-        let y : N = get_or peaks (top - 1) d in
-        let l = last_tree hung.stands (take (top - 1) peaks) y (front_last peaks top d some hung.within) in
-        let more : 2 ^ hung.height ≤ 2 ^ l.height = pow_mono {i = hung.height} {j = l.height} l.taller in
-        let all : length (l.late ++ hung.late) ≡ length l.late + length hung.late = length-append l.late hung.late in
-        record {
-          height = suc l.height;
-          count = l.count;
-          early = l.early;
-          late = l.late ++ hung.late;
-          within = omega (arith, hung.within);
-          stands = l.stands;
-          some = omega (arith, hung.some);
-          most = omega (arith, l.perfect.0, twice l.height, hung.most);
-          root_is =
-              joined_root l.height l.late hung.late y peak l.perfect hung.some (omega (arith, hung.most)) hung.root_is;
-          nodes_are = hung.nodes_are ∙ (ap (λ ys. ys ++ hung.late) l.nodes_are ∙ append_assoc l.early l.late hung.late);
-        }
+  reverse_push : (xs : List N) (x : N) → reverse (xs ++ x ∷ []) ≡ x ∷ reverse xs
+  reverse_push xs x = reverse-append xs (x ∷ [])
 
-    pub hang_all : top ≡ 0 → root join nodes ≡ Some peak
-    hang_all bottom =
-        let none : hung.early ≡ [] = no_trees hung.stands (ap (λ m. take m peaks) bottom) in
-        ap (root join) (hung.nodes_are ∙ ap (λ ys. ys ++ hung.late) none) ∙ hung.root_is
+  -- the trees, and behind them the root of other nodes, no more than the last tree has
+  joined_behind : {h n : ℕ} {peaks nodes : List N} → Stands join h n peaks nodes → (late : List N) (y : N) → 1 ≤ length late → length late ≤ 2 ^ h
+      → root join late ≡ Some y → root join (nodes ++ late) ≡ Some (fold (λ peak before. join before peak) y (reverse peaks))
+  joined_behind bare late y some most is = is
+  joined_behind {h} (even c e above) late y some most is = joined_behind above late y some (omega (arith, twice h)) is
+  joined_behind {h} (odd c before early last z e above perfect p q) late y some most is =
+      let more : length (last ++ late) ≡ length last + length late = length-append last late in
+      ap (λ nodes. root join (nodes ++ late)) q
+      ∙ (ap (root join) (append_assoc early last late)
+      ∙ (joined_behind above (last ++ late) (join z y) (omega arith) (omega (arith, twice h, perfect.0)) (joined_root h last late z y perfect some most is)
+      ∙ sym (ap (λ peaks. Some (fold (λ peak before. join before peak) y peaks)) (ap reverse p ∙ reverse_push before z))))
+
+  pub whole_root : {h n : ℕ} {peaks nodes : List N} → Stands join h n peaks nodes
+      → root join nodes ≡ reduce (λ peak before. join before peak) (reverse peaks)
+  whole_root bare = refl
+  whole_root (even c e above) = whole_root above
+  whole_root {h} (odd c before early last z e above perfect p q) =
+      ap (root join) q
+      ∙ (joined_behind above last z (omega (arith, perfect.0, pow_pos h)) (omega (arith, perfect.0, twice h)) perfect.1
+      ∙ sym (ap (reduce (λ peak before. join before peak)) (ap reverse p ∙ reverse_push before z)))

@@ -4,7 +4,7 @@ ghost use Rattle.calendar.specs.Published.{published};
 ghost use Rattle.std.specs.List.{between};
 ghost use Rattle.tree.specs.Trees.{root};
 
-use crate::forest::{feed, planted, whole};
+use crate::forest::Forest;
 use crate::row::Row;
 use tree::Joining;
 
@@ -19,11 +19,11 @@ pub(crate) fn range_root<J: Joining, R: Row<Node = J::Node>>(
     ensures there { end ≤ length (R.Row.row row.now) → root J.Joining.joined (between low end (R.Row.row row.now)) ≡ result }
     ensures short { length (R.Row.row row.now) < end → result ≡ None }
 {
-    let mut forest = planted::<J>(row.at(low)?);
+    let mut forest = Forest::planted::<J>(row.at(low)?);
     for place in low + 1..end {
-        feed::<J>(&mut forest, row.at(place)?);
+        forest.feed::<J>(row.at(place)?);
     }
-    Some(whole::<J>(&forest))
+    forest.whole::<J>()
 }
 
 // The root of the calendar that a publication closes; none where the publication is not there.

@@ -46,7 +46,7 @@ loop-place-preserved g c =
     let row = g.R.Row.row c.args.row.now in
     let place : ℕ = c.loop-place.place in
     let at = c.in_ok-at-2.ensures in (
-      subst (Holds g.J.Joining.joined c.feed.new.forest)
+      subst (Holds g.J.Joining.joined c.feed.new.self)
           (sym (range_more row c.args.low place c.in_ok-at-2.field-0 (omega arith) at))
           (c.feed.ensures (between c.args.low place row) c.loop-place.invariant.0),
       omega (arith, (nth_some row place c.in_ok-at-2.field-0 at).0),
@@ -54,9 +54,4 @@ loop-place-preserved g c =
 
 pub whole-requires : goal.whole-requires
 whole-requires g c =
-    let row = g.R.Row.row c.args.row.now in
-    let read = between c.args.low c.loop-place.place row in
-    let holds = c.loop-place.invariant.0 in (
-      forest_size g.row.J-Node g.met.J.Node.Small.small,
-      ((read, holds), omega (arith, holds.2, length-between row c.args.low c.loop-place.place c.loop-place.invariant.1)),
-    )
+    (forest_size g.row.J-Node g.met.J.Node.Small.small, (between c.args.low c.loop-place.place (g.R.Row.row c.args.row.now), c.loop-place.invariant.0))

@@ -1,7 +1,7 @@
 use Rattle.std.proofs.Common.{[], ◌∷◌, refl, arith}
 use Rattle.tree.proofs.Roots.{root_one}
 use Rattle.calendar.specs.Forests.{bare, odd}
-use Rattle.calendar.proofs.forest.planted.Goals as goal
+use Rattle.calendar.proofs.forest.Forest.planted.Goals as goal
 
 pub returns : goal.returns
 returns g c =
