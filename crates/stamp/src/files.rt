@@ -1,5 +1,5 @@
 // Files that are written and read back.
-use anyhow::anyhow;
+use anyhow::Context;
 use std::fs;
 
 // Writes the front of a buffer to a file, and answers what the file then holds.
@@ -9,9 +9,7 @@ pub(crate) fn keep(
     buffer: &[u8],
     length: usize,
 ) -> anyhow::Result<Vec<u8>> {
-    let Some(bytes) = buffer.get(0..length) else {
-        return Err(anyhow!("a length is past its buffer"));
-    };
+    let bytes = buffer.get(..length).context("a length is past its buffer")?;
     fs::write(rt, file, bytes)?;
     Ok(fs::read(rt, file)?)
 }

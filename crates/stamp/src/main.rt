@@ -5,7 +5,7 @@
 mod files;
 mod tell;
 
-use anyhow::anyhow;
+use anyhow::{Context, anyhow};
 use calendar::{Slice, calendar_path, calendar_root};
 use digest::{Digest, Hash, Seed};
 use entry::{Entry, enter};
@@ -15,6 +15,7 @@ use pile::{Head, Pile};
 use roots::{Entry as Published, print_list};
 use sha3::Sha3;
 use sha256::Sha256;
+use std::alloc::Global;
 use std::{env, fs};
 use tell::{blank, tell_list, tell_token};
 use tree::CalendarNodes;
@@ -29,6 +30,41 @@ const SECOND: u32 = 5;
 // The seconds of the calendar.
 const SECONDS: usize = 6;
 
+const USAGE: &str = "usage: stamp PORT STARBOARD";
+
+// What belongs to the two halves of a ping.
+#[derive(Clone, Copy, Drop)]
+struct Halves<T> {
+    port: T,
+    starboard: T,
+}
+
+// What a hash is called, and the files of its tokens and of its printed root.
+#[derive(Clone, Copy)]
+struct Names<'a> {
+    hash: &'a str,
+    tokens: Halves<&'a str>,
+    roots: &'a str,
+}
+
+const UNDER_SHA256: Names<'static> = Names {
+    hash: "SHA-256",
+    tokens: Halves {
+        port: "port-sha256.hct",
+        starboard: "starboard-sha256.hct",
+    },
+    roots: "roots-sha256.hcp",
+};
+
+const UNDER_SHA3: Names<'static> = Names {
+    hash: "SHA3-256",
+    tokens: Halves {
+        port: "port-sha3.hct",
+        starboard: "starboard-sha3.hct",
+    },
+    roots: "roots-sha3.hcp",
+};
+
 // A record under one hash: prints its digest and its leaf, or the hash's refusal.
 fn enter_record<H: Hash>(
     rt: &HostRuntime,
@@ -37,15 +73,12 @@ fn enter_record<H: Hash>(
 ) -> anyhow::Result<Option<Entry>> {
     match enter::<H>(record) {
         Ok(entry) => {
-            let digest = entry.digest;
-            let leaf = entry.leaf;
-            println!(rt; "  {side} digest {digest}")?;
-            println!(rt; "  {side} leaf {leaf}")?;
+            println!(rt; "  {side} digest {}", entry.digest)?;
+            println!(rt; "  {side} leaf {}", entry.leaf)?;
             Ok(Some(entry))
         }
         Err(refusal) => {
-            let number = refusal.number();
-            println!(rt; "  {side} refused {number}")?;
+            println!(rt; "  {side} refused {}", refusal.number())?;
             Ok(None)
         }
     }
@@ -53,182 +86,141 @@ fn enter_record<H: Hash>(
 
 // Commits a list as a second, and answers its digest.
 fn close<P: Pile>(pile: &mut P, second: u32, list: &[Digest]) -> anyhow::Result<Digest> {
-    if pile.commit(list).is_err() {
-        return Err(anyhow!("a second is refused"));
-    }
-    match pile.second(second) {
-        Some(digest) => Ok(digest),
-        None => Err(anyhow!("the calendar lacks a second")),
-    }
+    pile.commit(list)
+        .map_err(|_| anyhow!("a second is refused"))?;
+    pile.second(second).context("the calendar lacks a second")
 }
 
 // Commits the empty seconds and then the leaves, and answers the calendar.
-fn fill<P: Pile>(pile: &mut P, leaves: &[Digest]) -> anyhow::Result<[Digest; SECONDS]> {
-    let mut calendar = [Digest::default(); SECONDS];
-    let none = &leaves[0..0];
+fn fill<P: Pile>(heap: Global, pile: &mut P, leaves: &[Digest]) -> anyhow::Result<Vec<Digest>> {
+    // An empty list that is lent as the leaves are: a call with `&[]` gets no proof here.
+    let none = &leaves[..0];
+    let mut calendar = Vec::new(heap);
     for second in 0..SECOND {
         let digest = close(pile, second, none)?;
-        calendar[second as usize] = digest;
+        calendar.push(digest)?;
     }
     let digest = close(pile, SECOND, leaves)?;
-    calendar[SECOND as usize] = digest;
+    calendar.push(digest)?;
     Ok(calendar)
 }
 
-// Writes the token of a place of the last round into a buffer, and answers its length.
-fn stamp<P: Pile>(
-    pile: &P,
-    calendar: &[Digest],
-    place: usize,
-    recorded: Digest,
-    out: &mut [u8],
-) -> anyhow::Result<usize> {
-    let mut way = [blank(); 64];
-    let mut path = [blank(); 31];
-    let Ok(rounds) = pile.way(place, &mut way) else {
-        return Err(anyhow!("the round has no such place"));
-    };
-    let Ok(calendars) = calendar_path::<CalendarNodes<P::Digester>, Slice<Digest>>(
-        &Slice::new(calendar),
-        SECOND,
-        SECOND,
-        &mut path,
-    ) else {
-        return Err(anyhow!("the calendar has no such second"));
-    };
-    let (Some(round), Some(calendar)) = (way.get(0..rounds), path.get(0..calendars)) else {
-        return Err(anyhow!("a path is too long"));
-    };
-    let fields = Fields {
-        recorded,
-        second: SECOND,
-        publication: SECOND,
-        round,
-        calendar,
-    };
-    let Ok(length) = fields.write::<P::Digester>(out) else {
-        return Err(anyhow!("the token is refused"));
-    };
-    Ok(length)
+// A pile whose last round has the leaves of a ping, and the calendar of its seconds.
+#[derive(Drop)]
+struct Committed<'a, P> {
+    rt: &'a HostRuntime,
+    pile: P,
+    calendar: Vec<Digest>,
 }
 
-// A half's token, written to a file and told as it is read back.
-fn issue<P: Pile>(
-    rt: &HostRuntime,
-    pile: &P,
-    calendar: &[Digest],
-    (place, recorded): (usize, Digest),
-    file: &str,
-) -> anyhow::Result<()> {
-    let mut buffer = [0; 3183];
-    let length = stamp(pile, calendar, place, recorded, &mut buffer)?;
-    let bytes = keep(rt, file, &buffer, length)?;
-    tell_token::<P::Digester>(rt, file, bytes.as_slice())
-}
+impl<P: Pile> Committed<'_, P> {
+    // Writes the token of a place into a buffer, and answers its length.
+    fn stamp(&self, place: usize, recorded: Digest, out: &mut [u8]) -> anyhow::Result<usize> {
+        let mut way = [blank(); 64];
+        let mut path = [blank(); 31];
+        let rounds = self
+            .pile
+            .way(place, &mut way)
+            .map_err(|_| anyhow!("the round has no such place"))?;
+        let row = Slice::new(self.calendar.as_slice());
+        let answer = calendar_path::<CalendarNodes<P::Digester>, _>(
+            &row, SECOND, SECOND, &mut path,
+        );
+        let calendars = answer.map_err(|_| anyhow!("the calendar has no such second"))?;
+        let fields = Fields {
+            recorded,
+            second: SECOND,
+            publication: SECOND,
+            round: way.get(..rounds).context("a path is too long")?,
+            calendar: path.get(..calendars).context("a path is too long")?,
+        };
+        fields
+            .write::<P::Digester>(out)
+            .map_err(|_| anyhow!("the token is refused"))
+    }
 
-// The root of the calendar, printed to a file and told as it is read back.
-fn publish<H: Hash>(rt: &HostRuntime, calendar: &[Digest], file: &str) -> anyhow::Result<()> {
-    let Some(root) = calendar_root::<CalendarNodes<H>, Slice<Digest>>(&Slice::new(calendar), SECOND)
-    else {
-        return Err(anyhow!("the calendar has no root"));
-    };
-    let published = Published {
-        second: SECOND,
-        root,
-    };
-    let mut buffer = [0; 44];
-    let Ok(length) = print_list::<H>(&[published], &mut buffer) else {
-        return Err(anyhow!("the list is refused"));
-    };
-    let bytes = keep(rt, file, &buffer, length)?;
-    tell_list::<H>(rt, file, bytes.as_slice(), SECOND)
-}
+    // A half's token, written to a file and told as it is read back.
+    fn issue(&self, place: usize, entry: &Entry, file: &str) -> anyhow::Result<()> {
+        let mut buffer = [0; 3183];
+        let length = self.stamp(place, entry.digest, &mut buffer)?;
+        let bytes = keep(self.rt, file, &buffer, length)?;
+        tell_token::<P::Digester>(self.rt, file, bytes.as_slice())
+    }
 
-// The names of the files of one hash.
-#[derive(Clone, Copy)]
-struct Names<'a> {
-    port: &'a str,
-    starboard: &'a str,
-    roots: &'a str,
+    // The root of the calendar, printed to a file and told as it is read back.
+    fn publish(&self, file: &str) -> anyhow::Result<()> {
+        let row = Slice::new(self.calendar.as_slice());
+        let root = calendar_root::<CalendarNodes<P::Digester>, _>(&row, SECOND);
+        let published = Published {
+            second: SECOND,
+            root: root.context("the calendar has no root")?,
+        };
+        let mut buffer = [0; 44];
+        let printed = print_list::<P::Digester>(&[published], &mut buffer);
+        let length = printed.map_err(|_| anyhow!("the list is refused"))?;
+        let bytes = keep(self.rt, file, &buffer, length)?;
+        tell_list::<P::Digester>(self.rt, file, bytes.as_slice(), SECOND)
+    }
 }
 
 // Tokens and printed root of one round.
 fn serve<P: Pile + Drop>(
     rt: &HostRuntime,
     mut pile: P,
-    port: Entry,
-    starboard: Entry,
+    entries: &Halves<Entry>,
     names: &Names,
 ) -> anyhow::Result<()> {
-    let calendar = fill(&mut pile, &[port.leaf, starboard.leaf])?;
-    let digest = calendar[SECOND as usize];
+    let leaves = [entries.port.leaf, entries.starboard.leaf];
+    let calendar = fill(rt.alloc(), &mut pile, &leaves)?;
+    let digest = calendar.last().context("the calendar lacks a second")?;
     println!(rt; "  second {SECOND} {digest}")?;
-    issue(rt, &pile, &calendar, (0, port.digest), names.port)?;
-    issue(rt, &pile, &calendar, (1, starboard.digest), names.starboard)?;
-    publish::<P::Digester>(rt, &calendar, names.roots)
+    let round = Committed { rt, pile, calendar };
+    round.issue(0, &entries.port, names.tokens.port)?;
+    round.issue(1, &entries.starboard, names.tokens.starboard)?;
+    round.publish(names.roots)
 }
 
-// The round of the two halves under one hash, through grouping and masking to a head. Answers how many tokens there are.
-fn round<H: Hash>(
-    rt: &HostRuntime,
-    port: &[u8],
-    starboard: &[u8],
-    names: &Names,
-) -> anyhow::Result<u32> {
-    let Some(first) = enter_record::<H>(rt, "port", port)? else {
+// The round of a ping's records under one hash, through grouping and masking to a head. Answers how many tokens there are.
+fn round<H: Hash>(rt: &HostRuntime, records: &Halves<&[u8]>, names: &Names) -> anyhow::Result<u32> {
+    let hash = names.hash;
+    println!(rt; "{hash}")?;
+    let Some(port) = enter_record::<H>(rt, "port", records.port)? else {
         return Ok(0);
     };
-    let Some(second) = enter_record::<H>(rt, "starboard", starboard)? else {
+    let Some(starboard) = enter_record::<H>(rt, "starboard", records.starboard)? else {
         return Ok(0);
     };
     let mut row = [Digest::default(); SECONDS];
     let grouping = Grouping::over(rt.alloc(), Head::<H>::over(&mut row))?;
     let pile = Masking::over(rt.alloc(), grouping, Seed::from(SEED))?;
-    serve(rt, pile, first, second, names)?;
+    serve(rt, pile, &Halves { port, starboard }, names)?;
     Ok(2)
 }
 
-// Both rounds of a ping. Answers how many tokens there are.
-fn rounds(rt: &HostRuntime, port: &[u8], starboard: &[u8]) -> anyhow::Result<u32> {
-    println!(rt; "SHA-256")?;
-    let names = Names {
-        port: "port-sha256.hct",
-        starboard: "starboard-sha256.hct",
-        roots: "roots-sha256.hcp",
+// The two halves of a ping under each hash, and a line of what was done.
+fn ping(rt: &HostRuntime, files: &Halves<String>) -> anyhow::Result<()> {
+    let port = fs::read(rt, files.port.as_str())?;
+    let starboard = fs::read(rt, files.starboard.as_str())?;
+    println!(rt; "port: {}, {} bytes", files.port, port.len())?;
+    println!(rt; "starboard: {}, {} bytes", files.starboard, starboard.len())?;
+    let records = Halves {
+        port: port.as_slice(),
+        starboard: starboard.as_slice(),
     };
-    let one = round::<Sha256>(rt, port, starboard, &names)?;
-    println!(rt; "SHA3-256")?;
-    let names = Names {
-        port: "port-sha3.hct",
-        starboard: "starboard-sha3.hct",
-        roots: "roots-sha3.hcp",
-    };
-    let other = round::<Sha3>(rt, port, starboard, &names)?;
-    Ok(one.saturating_add(other))
-}
-
-// The two halves of a ping, and a line of what was done.
-fn ping(rt: &HostRuntime, port: &str, starboard: &str) -> anyhow::Result<()> {
-    let first = fs::read(rt, port)?;
-    let second = fs::read(rt, starboard)?;
-    let length = first.len();
-    println!(rt; "port: {port}, {length} bytes")?;
-    let length = second.len();
-    println!(rt; "starboard: {starboard}, {length} bytes")?;
-    let tokens = rounds(rt, first.as_slice(), second.as_slice())?;
+    let one = round::<Sha256>(rt, &records, &UNDER_SHA256)?;
+    let other = round::<Sha3>(rt, &records, &UNDER_SHA3)?;
+    let tokens = one.saturating_add(other);
     println!(rt; "done: 1 ping, 2 records, {tokens} tokens written and read back")?;
     Ok(())
 }
 
 fn run(rt: &HostRuntime) -> anyhow::Result<()> {
     let mut args = env::args(rt)?.skip(1);
-    let Some(port) = args.next() else {
-        return Err(anyhow!("usage: stamp PORT STARBOARD"));
+    let files = Halves {
+        port: args.next().context(USAGE)?,
+        starboard: args.next().context(USAGE)?,
     };
-    let Some(starboard) = args.next() else {
-        return Err(anyhow!("usage: stamp PORT STARBOARD"));
-    };
-    ping(rt, port.as_str(), starboard.as_str())
+    ping(rt, &files)
 }
 
 fn main(rt: HostRuntime) -> anyhow::Result<()> {

@@ -1,5 +1,5 @@
 // What a token and a printed list hold, as they are read from their files.
-use anyhow::anyhow;
+use anyhow::{Context, anyhow};
 use digest::{Digest, Hash, leaf};
 use roots::{Holder, Roots};
 use token::{Token, read};
@@ -15,9 +15,7 @@ pub(crate) fn blank() -> Link<Digest> {
 
 fn tell_links(rt: &HostRuntime, kind: &str, links: &[Link<Digest>]) -> anyhow::Result<()> {
     for link in links {
-        let side = link.side.number();
-        let sibling = link.sibling;
-        println!(rt; "    {kind} {side} {sibling}")?;
+        println!(rt; "    {kind} {} {}", link.side.number(), link.sibling)?;
     }
     Ok(())
 }
@@ -48,12 +46,9 @@ pub(crate) fn tell_token<H: Hash>(
     file: &str,
     bytes: &[u8],
 ) -> anyhow::Result<()> {
-    let length = bytes.len();
-    println!(rt; "  {file}: {length} bytes")?;
-    match read::<H>(bytes) {
-        Ok(token) => tell_fields::<H>(rt, &token),
-        Err(_) => Err(anyhow!("the token does not read back")),
-    }
+    println!(rt; "  {file}: {} bytes", bytes.len())?;
+    let token = read::<H>(bytes).map_err(|_| anyhow!("the token does not read back"))?;
+    tell_fields::<H>(rt, &token)
 }
 
 // A printed list in bytes, and its root at a second.
@@ -63,15 +58,12 @@ pub(crate) fn tell_list<H: Hash>(
     bytes: &[u8],
     second: u32,
 ) -> anyhow::Result<()> {
-    let length = bytes.len();
-    println!(rt; "  {file}: {length} bytes")?;
+    println!(rt; "  {file}: {} bytes", bytes.len())?;
     let mut holder = Holder::<H>::empty();
-    let Ok(_) = holder.load(bytes) else {
-        return Err(anyhow!("the list does not read back"));
-    };
-    let Some(root) = holder.root(second) else {
-        return Err(anyhow!("the list lacks its root"));
-    };
+    holder
+        .load(bytes)
+        .map_err(|_| anyhow!("the list does not read back"))?;
+    let root = holder.root(second).context("the list lacks its root")?;
     println!(rt; "    second {second} root {root}")?;
     Ok(())
 }
