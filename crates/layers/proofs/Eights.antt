@@ -21,15 +21,6 @@ use Rattle.layers.specs.Grouping.{group, groups, group_root, group_roots, group_
 some_value : {A : Type 0} (o : Option A) (x d : A) → o ≡ Some x → o ≡ Some (unwrap_or o d)
 some_value o x d e = e ∙ ap Some (sym (ap (λ p. unwrap_or p d) e))
 
--- a part from place 8 × j on, of eight digests or what remains
-pub group_part : (items : List Digest) (j n : ℕ) → n ≡ min (length items - 8 * j) 8 → take n (drop (8 * j) items) ≡ group items j
-group_part items j n e =
-    let size = length-drop (8 * j) items in
-    elim (cases_lt (length items - 8 * j) 8) [
-      | inl less ↦ take_all n (drop (8 * j) items) (omega arith) ∙ sym (take_all 8 (drop (8 * j) items) (omega arith))
-      | inr more ↦ let whole : n ≡ 8 = omega arith in ap (λ m. take m (drop (8 * j) items)) whole
-    ]
-
 -- a list cut after its first eight
 pub first_group : (xs chunk rest : List Digest) → xs ≡ chunk ++ rest → length chunk ≡ min 8 (length xs) → (chunk ≡ take 8 xs) × (rest ≡ drop 8 xs)
 first_group xs chunk rest parts size =
@@ -107,9 +98,6 @@ module _ (digested : List ℕ → Digest) where
     pub so : roots ≡ map (λ j. group_root digested (group items j)) (range_with_len 0 (length roots))
     pub from : rest ≡ drop (8 * length roots) items
     pub near : 8 * length roots < length items + 8
-
-  pub no_roots : (items : List Digest) → RootsSoFar items [] items
-  no_roots items = record { so = refl; from = refl; near = omega arith }
 
   -- the root of the group that comes next
   pub roots_more : (items roots rest chunk left : List Digest) → RootsSoFar items roots rest → rest ≡ chunk ++ left → length chunk ≡ min 8 (length rest)

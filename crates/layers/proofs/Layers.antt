@@ -8,7 +8,7 @@ use Rattle.digest.specs.declared.value.Digest.{Digest}
 use Rattle.tree.specs.Trees.{followed}
 use Rattle.pile.specs.Meaning.{Meaning, Sealed, Way, Law, EmptyLaw, round_join}
 use Rattle.pile.specs.Answers.{committed}
-use Rattle.layers.specs.Layered.{Lowering, Lowers, layered_round, layered_way, layered_ways, layered_meaning, layered_seal, layered_fresh, front_answer}
+use Rattle.layers.specs.Layered.{Lowering, Lowers, layered_round, layered_way, layered_ways, layered_meaning, layered_seal, front_answer}
 use Rattle.layers.proofs.Ways.{followed_append, nth_is, Over}
 
 pub front_is : (w : Lowering) (items : List Digest) (i : ℕ) → i < length items → front_answer w items i ≡ Some (w.front items i)
@@ -22,23 +22,8 @@ module _ (w : Lowering) (items : List Digest) (i : ℕ) (answer : Option Way) (i
         | inl h ↦ let some = front_is w items i h in (h, cc)
         | inr past ↦
             let none = cond-false (ltb i (length items)) (Some (w.front items i)) None (le-ltb i (length items) past) in
-            let z : ◌≡◌ {A = ℕ} 0 1 = cc in
-            absurd (omega arith)
+            cc
       ]
-
--- a layer that has stored no list
-pub layered_new : (w : Lowering) (m : Meaning) → layered_meaning w [] m ≡ layered_fresh w.covered w.links m
-layered_new w m =
-    ap
-    (λ xs. record {
-      row = m.row;
-      round = xs;
-      ways = layered_ways w xs m.ways;
-      most = min 256 (w.covered m.most);
-      span = m.span;
-      deepest = w.links + m.deepest;
-    })
-    (take_all (w.covered (length m.round)) [] (omega arith))
 
 module _ {width links : ℕ} {digested : List ℕ → Digest} {w : Lowering} (laws : Lowers width links digested w) where
   way_at : (items : List Digest) (below : List Way) (i : ℕ) → i < length items

@@ -1,6 +1,5 @@
 -- The items of a list under their masks, and where their ways lead.
-use Rattle.std.proofs.Common.{◌≡◌, ℕ, zero, suc, ◌+◌, ◌<◌, List, [], ◌∷◌, length, get_or, drop, Some, sym, refl, ap, ◌∙◌, arith}
-use Rattle.std.proofs.Math.Seq.{drop-cons}
+use Rattle.std.proofs.Common.{◌≡◌, ℕ, zero, suc, ◌+◌, ◌<◌, List, [], ◌∷◌, length, get_or, Some, refl, ap, ◌∙◌, arith}
 use Rattle.std.proofs.lemmas.Option.{slice_get-get_or}
 use Rattle.digest.specs.declared.value.Digest.{Digest}
 use Rattle.digest.specs.declared.seed.Seed.{Seed}
@@ -24,14 +23,6 @@ module _ (digested : List ℕ → Digest) (seed : Seed) (second : ℕ) where
       let next : (i + 1) + k ≡ i + suc k = omega arith in
       from_at (i + 1) items k d (omega arith)
       ∙ ap (λ j. round_join digested (mask_at digested seed second j) (get_or items k d)) next
-
-  -- the item at a place, and those from the next place on
-  pub from_next : (i : ℕ) (items : List Digest) (item : Digest) → i < length items → item ≡ get_or items i item
-      → masked_from digested seed second i (drop i items)
-      ≡ round_join digested (mask_at digested seed second i) item ∷ masked_from digested seed second (i + 1) (drop (i + 1) items)
-  from_next i items item h is =
-      let next : suc i ≡ i + 1 = omega arith in
-      ap (masked_from digested seed second i) (drop-cons items i item h ∙ (ap (λ x. x ∷ drop (suc i) items) (sym is) ∙ ap (λ k. item ∷ drop k items) next))
 
   pub length_masked : (items : List Digest) → length (masked digested seed second items) ≡ length items
   length_masked items = length_from 0 items

@@ -25,15 +25,15 @@ pub nth_is : {X : Type 0} (xs : List X) (i : ℕ) (x : X) → slice_get xs i ≡
 nth_is xs i x e =
     elim (cases_lt i (length xs)) [
       | inl h ↦ (h, let same = slice_get-get_or xs i x h in cc)
-      | inr past ↦ let none = slice_get_past xs i past in let z : ◌≡◌ {A = ℕ} 0 1 = cc in absurd (omega arith)
+      | inr past ↦ let none = slice_get_past xs i past in cc
     ]
 
 -- what is answered is no refusal
 pub no_refusal : {P : Type 0} (r : Result (Unit {0}) CommitRefusal) (refusal : CommitRefusal) → r ≡ Ok tt → r ≡ Err refusal → P
-no_refusal r refusal ok err = let z : ◌≡◌ {A = ℕ} 0 1 = cc in absurd (omega arith)
+no_refusal r refusal ok err = cc
 
 pub no_none : {A P : Type 0} (o : Option A) (x : A) → o ≡ Some x → o ≡ None → P
-no_none o x some none = let z : ◌≡◌ {A = ℕ} 0 1 = cc in absurd (omega arith)
+no_none o x some none = cc
 
 module _ (below : Meaning) (front : Way) (place room : ℕ) where
   pub behind_absent : length below.round ≤ place → behind_answer below front place room ≡ Err Absent
@@ -83,8 +83,7 @@ module _ {layer below : Meaning} {place lower : ℕ} {front : Way} (over : Over 
         | inl h ↦ ap (λ w. w ++ drop count links) (sym (over.way h))
         | inr past ↦
             let none = behind_absent below front lower (length links) past in
-            let z : ◌≡◌ {A = ℕ} 0 1 = cc in
-            absurd (omega arith)
+            cc
       ]
 
   -- a way's length, from that of the way below
@@ -99,6 +98,5 @@ module _ {layer below : Meaning} {place lower : ℕ} {front : Way} (over : Over 
             length_there layer place (over.inside h) ∙ ap Some (omega (arith, size, short))
         | inr past ↦
             let none = length_absent below lower past in
-            let z : ◌≡◌ {A = ℕ} 0 1 = cc in
-            absurd (omega arith)
+            cc
       ]
