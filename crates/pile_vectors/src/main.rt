@@ -63,10 +63,7 @@ struct Stack<'a, P> {
 impl<P: Pile> Stack<'_, P> {
     fn show_way(&self, n: u32, place: u32) -> anyhow::Result<()> {
         let Stack { label, pile, rt } = self;
-        let mut links = [Link {
-            side: Side::Right,
-            sibling: Digest::default(),
-        }; 16];
+        let mut links = [Link::default(); 16];
         match pile.way(place as usize, &mut links) {
             Ok(count) => {
                 let way = links.get(..count).unwrap_or(&[]);
@@ -134,54 +131,34 @@ const UPPER: u8 = 100;
 
 const LOWER: u8 = 7;
 
-fn grouped<P: Pile + Drop>(heap: Global, below: P) -> Result<Grouping<P>, AllocError> {
-    Ok(Grouping::over(heap, below)?)
-}
-
-fn twice<P: Pile + Drop>(heap: Global, below: P) -> Result<Grouping<Grouping<P>>, AllocError> {
-    grouped(heap, grouped(heap, below)?)
+fn twice<P: Pile>(below: P) -> Grouping<Grouping<P>> {
+    Grouping::over(Grouping::over(below))
 }
 
 // A masking over a pile, with the seed that begins with a byte.
-fn masked<P: Pile + Drop>(heap: Global, below: P, first: u8) -> Result<Masking<P>, AllocError> {
-    Ok(Masking::over(heap, below, Seed::from(counted(first)))?)
+fn masked<P: Pile>(below: P, first: u8) -> Masking<P> {
+    Masking::over(below, Seed::from(counted(first)))
 }
 
 // Stacks over a head, each over a calendar of its own.
 fn stacks<H: Hash>(rt: &HostRuntime, hash: &str) -> anyhow::Result<()> {
-    let heap = rt.alloc();
     let mut row = [Digest::default(); SECONDS];
     rounds(rt, hash, "head", Head::<H>::over(&mut row))?;
-    rounds(
-        rt,
-        hash,
-        "grouping",
-        grouped(heap, Head::<H>::over(&mut row))?,
-    )?;
-    let two = twice(heap, Head::<H>::over(&mut row))?;
+    let one = Grouping::over(Head::<H>::over(&mut row));
+    rounds(rt, hash, "grouping", one)?;
+    let two = twice(Head::<H>::over(&mut row));
     rounds(rt, hash, "grouping grouping", two)?;
-    let two = twice(heap, Head::<H>::over(&mut row))?;
-    rounds(rt, hash, "grouping grouping grouping", grouped(heap, two)?)?;
-    let two = twice(heap, Head::<H>::over(&mut row))?;
-    rounds(
-        rt,
-        hash,
-        "masking grouping grouping",
-        masked(heap, two, UPPER)?,
-    )?;
-    let two = twice(heap, Head::<H>::over(&mut row))?;
-    let three = grouped(heap, masked(heap, two, UPPER)?)?;
-    rounds(rt, hash, "grouping masking grouping grouping", three)?;
-    let one = grouped(heap, Head::<H>::over(&mut row))?;
-    let three = masked(heap, masked(heap, one, LOWER)?, UPPER)?;
-    rounds(rt, hash, "masking masking grouping", three)
-}
-
-fn run(rt: &HostRuntime) -> anyhow::Result<()> {
-    stacks::<Sha256>(rt, "SHA-256")?;
-    stacks::<Sha3>(rt, "SHA3-256")
+    let three = Grouping::over(twice(Head::<H>::over(&mut row)));
+    rounds(rt, hash, "grouping grouping grouping", three)?;
+    let three = masked(twice(Head::<H>::over(&mut row)), UPPER);
+    rounds(rt, hash, "masking grouping grouping", three)?;
+    let four = Grouping::over(masked(twice(Head::<H>::over(&mut row)), UPPER));
+    rounds(rt, hash, "grouping masking grouping grouping", four)?;
+    let lower = masked(Grouping::over(Head::<H>::over(&mut row)), LOWER);
+    rounds(rt, hash, "masking masking grouping", masked(lower, UPPER))
 }
 
 fn main(rt: HostRuntime) -> anyhow::Result<()> {
-    run(&rt)
+    stacks::<Sha256>(&rt, "SHA-256")?;
+    stacks::<Sha3>(&rt, "SHA3-256")
 }

@@ -17,8 +17,8 @@ use sha3::Sha3;
 use sha256::Sha256;
 use std::alloc::Global;
 use std::{env, fs};
-use tell::{blank, tell_list, tell_token};
-use tree::CalendarNodes;
+use tell::{tell_list, tell_token};
+use tree::{CalendarNodes, Link};
 use writer::Fields;
 
 // The seed of the masks, which a survey keeps to itself. This one is for the sample.
@@ -116,8 +116,8 @@ struct Committed<'a, P> {
 impl<P: Pile> Committed<'_, P> {
     // Writes the token of a place into a buffer, and answers its length.
     fn stamp(&self, place: usize, recorded: Digest, out: &mut [u8]) -> anyhow::Result<usize> {
-        let mut way = [blank(); 64];
-        let mut path = [blank(); 31];
+        let mut way = [Link::default(); 64];
+        let mut path = [Link::default(); 31];
         let rounds = self
             .pile
             .way(place, &mut way)
@@ -191,8 +191,8 @@ fn round<H: Hash>(rt: &HostRuntime, records: &Halves<&[u8]>, names: &Names) -> a
         return Ok(0);
     };
     let mut row = [Digest::default(); SECONDS];
-    let grouping = Grouping::over(rt.alloc(), Head::<H>::over(&mut row))?;
-    let pile = Masking::over(rt.alloc(), grouping, Seed::from(SEED))?;
+    let grouping = Grouping::over(Head::<H>::over(&mut row));
+    let pile = Masking::over(grouping, Seed::from(SEED));
     serve(rt, pile, &Halves { port, starboard }, names)?;
     Ok(2)
 }

@@ -3,15 +3,7 @@ use anyhow::{Context, anyhow};
 use digest::{Digest, Hash, leaf};
 use roots::{Holder, Roots};
 use token::{Token, read};
-use tree::{CalendarNodes, Link, RoundNodes, Side, follow};
-
-// A link that stands for none.
-pub(crate) fn blank() -> Link<Digest> {
-    Link {
-        side: Side::Right,
-        sibling: Digest::default(),
-    }
-}
+use tree::{CalendarNodes, Link, RoundNodes, follow};
 
 fn tell_links(rt: &HostRuntime, kind: &str, links: &[Link<Digest>]) -> anyhow::Result<()> {
     for link in links {
@@ -22,8 +14,8 @@ fn tell_links(rt: &HostRuntime, kind: &str, links: &[Link<Digest>]) -> anyhow::R
 
 // The fields of a token, and the root that its two paths lead to.
 fn tell_fields<H: Hash>(rt: &HostRuntime, token: &Token) -> anyhow::Result<()> {
-    let mut round = [blank(); 64];
-    let mut calendar = [blank(); 31];
+    let mut round = [Link::default(); 64];
+    let mut calendar = [Link::default(); 31];
     let rounds = token.round_links(&mut round);
     let calendars = token.calendar_links(&mut calendar);
     let recorded = token.digest();
