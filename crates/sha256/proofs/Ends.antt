@@ -1,18 +1,19 @@
 -- The end of a padded message, and its length in blocks.
-use Rattle.std.proofs.Common.{◌≡◌, ℕ, suc, ◌+◌, ◌-◌, ◌*◌, ◌/◌, ◌%◌, ◌<◌, ◌≤◌, ltb, List, ◌∷◌, ◌++◌, length, take, drop, set, replicate, sym, refl, ap, ◌∙◌, arith}
-use borrow.Rule.Slice.PartMut.{post_of, put_mid}
+use Rattle.std.proofs.Common.{◌≡◌, ℕ, suc, ◌+◌, ◌-◌, ◌*◌, ◌/◌, ◌%◌, ◌<◌, ◌≤◌, ltb, List, ◌∷◌, ◌++◌, length, take, drop, set, replicate, sym, refl, ap, ◌∙◌, ap₂, arith}
+use borrow.Rule.Slice.PartMut.{put_mid}
 use Rattle.std.proofs.lemmas.List.{append_assoc, length-append, length-drop, length-replicate, replicate-append-replicate, drop-replicate, drop-append-le, drop-drop, drop_at, take_at, set_at}
 use Rattle.std.proofs.lemmas.Bool.{cond_both, ltb-true, ltb-false}
 use Rattle.sha256.specs.Words.{eight_bytes}
 use Rattle.sha256.specs.Sha256.{zeros, padding, padded}
 use Rattle.sha256.specs.Tail.{tail_blocks, tail}
 
--- a byte at the end of what a copy wrote into n zeros
-pub marked_is : (n : ℕ) (rest ys : List ℕ) → length rest < n → ys ≡ rest
-    → set (ys ++ drop (length rest) (replicate n 0)) (length rest) 0x80 ≡ rest ++ 0x80 ∷ replicate (n - 1 - length rest) 0
-marked_is n rest ys h e =
-    let left : n - length rest ≡ suc (n - 1 - length rest) = omega arith in
-    rw (e, drop-replicate {X = ℕ} (length rest) n 0, left) (set_at rest 0 (replicate (n - 1 - length rest) 0) 0x80 (length rest) refl)
+-- a byte at the end of what a copy wrote into zeros
+pub marked_is : (rest ys : List ℕ) → length rest < 64 → ys ≡ rest
+    → set (ys ++ drop (length rest) (replicate 128 0)) (length rest) 0x80 ≡ rest ++ 0x80 ∷ replicate (127 - length rest) 0
+marked_is rest ys h e =
+    let left : 128 - length rest ≡ suc (127 - length rest) = omega arith in
+    ap (λ (l : List ℕ). set l (length rest) 0x80) (ap₂ ◌++◌ e (drop-replicate {X = ℕ} (length rest) 128 0 ∙ ap (λ (k : ℕ). replicate k 0) left))
+    ∙ set_at rest 0 (replicate (127 - length rest) 0) 0x80 (length rest) refl
 
 -- eight bytes over the zeros behind the z that stay; q zeros are left
 module _ (rest eight : List ℕ) (z q : ℕ) where

@@ -1,5 +1,5 @@
 -- The library's rotation is the standard's, for a turn that is not 0 and below 32.
-use Rattle.std.proofs.Common.{◌≡◌, ℕ, ◌-◌, ◌%◌, ◌<◌, refl, arith}
+use Rattle.std.proofs.Common.{◌≡◌, ℕ, ◌-◌, ◌%◌, ◌<◌, arith}
 use Rattle.std.specs.Int.{w32, rotate_right}
 use Rattle.sha256.specs.Words.{ROTR}
 

@@ -17,6 +17,7 @@ pub(crate) fn blocks(len: usize) -> usize
 }
 
 // What is left of a message, the padding's first byte, and zeros.
+#[tactic(auto, using(crate::proofs::Ends::marked_is))]
 fn marked(rest: &[u8]) -> [u8; 128]
     requires { length rest.now < 64 }
     ensures { result ≡ rest.now ++ 0x80 ∷ replicate (127 - length rest.now) 0 }

@@ -2,6 +2,7 @@
 ghost use Rattle.std.specs.Prelude.{◌≡◌, ◌<◌, ◌≤◌};
 ghost use Rattle.sha256.specs.Words.{Ch, Maj, Σ, σ};
 
+#[tactic(auto, using(crate::proofs::Choice::choice))]
 pub(crate) fn choose(x: u32, y: u32, z: u32) -> u32
     ensures { result ≡ Ch x y z }
 {

@@ -1,11 +1,10 @@
 -- What stands at each place of a state after a step of the permutation.
 use Rattle.std.proofs.Common.{◌≡◌, ℕ, ◌+◌, ◌*◌, ◌/◌, ◌%◌, ◌<◌, zero, suc, ◌≤◌, List, [], ◌∷◌, ◌++◌, length, take, get_or, refl, ap, ◌∙◌, ap₂, add-one, arith}
-use lib.Bits.{bit_and, bit_xor}
 use Rattle.std.specs.List.{fold}
 use Rattle.std.proofs.lemmas.List.{take_more}
 use Rattle.std.proofs.lemmas.List.Sums.{fold-append}
 use Rattle.std.proofs.lemmas.List.FromFn.{fill_by_all, get_or-map-range_with_len}
-use Rattle.sha3.specs.Keccak.{place, lane, lanes, rotl, complement, parity, effect, parities, effects, offsets, packed, constants, first_added, θ, ρ, π, χ, ι, Rnd, rounds, keccak_f}
+use Rattle.sha3.specs.Keccak.{place, lane, lanes, rotl, offsets, packed, constants, first_added, θ, ρ, π, χ, ι, Rnd, rounds, keccak_f}
 
 -- the lane of a column and a row
 pub lane_at : (a : List ℕ) (x y i : ℕ) → 5 * (y % 5) + x % 5 ≡ i → lane a x y ≡ get_or a i 0

@@ -28,6 +28,7 @@ fn absorb(a: [u64; 25], block: &[u8; RATE]) -> [u64; 25]
 }
 
 // The last block: what is left of the message, and the padding.
+#[tactic(auto, using(crate::proofs::Padding::last_made))]
 fn last_block(rest: &[u8]) -> [u8; RATE]
     requires { length rest.now < 136 }
     ensures { result ≡ rest.now ++ padding (length rest.now) }

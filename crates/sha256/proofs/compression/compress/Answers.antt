@@ -3,7 +3,7 @@ use Rattle.std.specs.List.{fold}
 use Rattle.std.specs.Simd.{first_chunks}
 use Rattle.std.proofs.lemmas.Iterator.{YieldsList-from_slice}
 use Rattle.std.proofs.lemmas.Iterator.Consumers.{fold_from_yields_List}
-use Rattle.sha256.specs.Keyed.{keyed, keyed_round}
+use Rattle.sha256.specs.Keyed.{keyed_round}
 use Rattle.sha256.specs.Sha256.{compressed, sums, round, rounds}
 use Rattle.sha256.proofs.Keys.{eights_are}
 use Rattle.sha256.proofs.compression.compress.Goals as goal

@@ -1,4 +1,4 @@
-use Rattle.std.proofs.Common.{ℕ, List, get_or, ap}
+use Rattle.std.proofs.Common.{ℕ, get_or, ap}
 use Rattle.sha3.specs.Keccak.{place, lane, walk, offsets, offsets_after}
 use Rattle.sha3.proofs.permutation.offset.Goals as goal
 
