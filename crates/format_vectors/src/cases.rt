@@ -15,7 +15,7 @@ pub(crate) enum Under {
 
 impl From<u8> for Under {
     fn from(number: u8) -> Under {
-        if number == Sha256::code() {
+        if number == Sha256::NUMBER {
             Under::Sha256
         } else {
             Under::Sha3

@@ -57,8 +57,10 @@ fn show_printed<H: Hash>(rt: &HostRuntime, list: &PrintedList, bytes: &[u8]) -> 
         buffer.starts_with(bytes),
         "a list is printed as other bytes"
     );
-    let behind = staying(&buffer, length);
-    println!(rt; "  printed {length}, {behind} bytes behind stay")?;
+    println!(rt;
+        "  printed {length}, {} bytes behind stay",
+        staying(&buffer, length)
+    )?;
     Ok(())
 }
 
@@ -71,11 +73,13 @@ pub(crate) fn list_case<'a, H: Hash>(
     let name = case.name;
     if let Err(fault) = holder.load(case.bytes) {
         let report = fault.report();
-        let number = report.number;
-        let layer = report.layer;
-        let place = report.place;
-        let count = holder.list().count();
-        println!(rt; "{name}: refused {number} {layer} {place}, holds {count}")?;
+        println!(rt;
+            "{name}: refused {} {} {}, holds {}",
+            report.number,
+            report.layer,
+            report.place,
+            holder.list().count()
+        )?;
         return Ok(());
     }
     let list = holder.list();

@@ -77,7 +77,7 @@ fn entry(second: u32) -> Entry {
 
 // One entry more than a list takes, at seconds that rise.
 fn many() -> [Entry; 1801] {
-    array::from_fn(|second| entry((second & 0xffff) as u32))
+    array::from_fn(|second| entry(second as u32))
 }
 
 pub(crate) fn show_refusals(rt: &HostRuntime) -> anyhow::Result<()> {

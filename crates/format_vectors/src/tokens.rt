@@ -7,7 +7,7 @@ use token::{Token, read};
 use tree::{CalendarNodes, Link, RoundNodes, Side, follow};
 use writer::Fields;
 
-// A link that stands for none.
+// A link that stands for none, where links are written: Link has no Default, and the programs share no crate.
 pub(crate) fn blank() -> Link<Digest> {
     Link {
         side: Side::Right,
@@ -19,9 +19,7 @@ pub(crate) fn blank() -> Link<Digest> {
 fn show_ends(rt: &HostRuntime, path: &str, links: &[Link<Digest>]) -> anyhow::Result<()> {
     for (end, link) in [("first", links.first()), ("last", links.last())] {
         if let Some(link) = link {
-            let side = link.side.number();
-            let sibling = link.sibling;
-            println!(rt; "  {end} {path} {side} {sibling}")?;
+            println!(rt; "  {end} {path} {} {}", link.side.number(), link.sibling)?;
         }
     }
     Ok(())
@@ -48,19 +46,19 @@ fn show_written<H: Hash>(rt: &HostRuntime, token: &Token, fields: &Fields) -> an
         made.starts_with(token.bytes()) && made == copied,
         "a token is written as other bytes"
     );
-    let behind = staying(&made, length);
-    println!(rt; "  written {length}, {behind} bytes behind stay")?;
+    println!(rt;
+        "  written {length}, {} bytes behind stay",
+        staying(&made, length)
+    )?;
     Ok(())
 }
 
 // What a token holds.
 fn show_fields<H: Hash>(rt: &HostRuntime, token: &Token, fields: &Fields) -> anyhow::Result<()> {
-    let recorded = fields.recorded;
-    println!(rt; "  record {recorded}")?;
+    println!(rt; "  record {}", fields.recorded)?;
     show_ends(rt, "round", fields.round)?;
     show_ends(rt, "calendar", fields.calendar)?;
-    let reached = followed::<H>(fields);
-    println!(rt; "  followed {reached}")?;
+    println!(rt; "  followed {}", followed::<H>(fields))?;
     show_written::<H>(rt, token, fields)
 }
 
@@ -80,8 +78,8 @@ fn show_token<H: Hash>(rt: &HostRuntime, name: &str, token: &Token) -> anyhow::R
         recorded: token.digest(),
         second,
         publication,
-        round: &round[0..rounds],
-        calendar: &calendar[0..calendars],
+        round: &round[..rounds],
+        calendar: &calendar[..calendars],
     };
     show_fields::<H>(rt, token, &fields)
 }
@@ -93,10 +91,10 @@ pub(crate) fn token_case<H: Hash>(rt: &HostRuntime, case: Case<'_>) -> anyhow::R
         Ok(token) => show_token::<H>(rt, name, &token),
         Err(fault) => {
             let report = fault.report();
-            let number = report.number;
-            let layer = report.layer;
-            let place = report.place;
-            println!(rt; "{name}: refused {number} {layer} {place}")?;
+            println!(rt;
+                "{name}: refused {} {} {}",
+                report.number, report.layer, report.place
+            )?;
             Ok(())
         }
     }

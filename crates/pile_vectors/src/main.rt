@@ -17,9 +17,9 @@ const SIZES: [u32; 8] = [0, 1, 8, 9, 64, 65, 256, 257];
 // How many seconds each calendar can hold.
 const SECONDS: usize = 10;
 
-// 32 bytes that count up from a first one.
+// 32 bytes that count up from a first one. The programs share no crate, so each makes its samples itself.
 fn counted(first: u8) -> [u8; 32] {
-    array::from_fn(|k| first.wrapping_add((k & 0xff) as u8))
+    array::from_fn(|k| first.wrapping_add(k as u8))
 }
 
 // Item i of each round: bytes that count up from 3 * i.
@@ -68,14 +68,14 @@ impl<P: Pile> Stack<'_, P> {
             Ok(count) => {
                 let way = links.get(..count).unwrap_or(&[]);
                 let sides = sides(rt.alloc(), way)?;
-                let digest = P::Digester::digest(bytes(rt.alloc(), way)?.as_slice()).map_err(
-                    |_| anyhow!("a way is too long"),
-                )?;
+                let bytes = bytes(rt.alloc(), way)?;
+                let digest = P::Digester::digest(bytes.as_slice()).map_err(|_| anyhow!(
+                    "a way is too long"
+                ))?;
                 println!(rt; "{label} {n}: way {place} sides {sides} {digest}")?;
             }
             Err(refusal) => {
-                let number = refusal.number();
-                println!(rt; "{label} {n}: way {place} refused {number}")?;
+                println!(rt; "{label} {n}: way {place} refused {}", refusal.number())?;
             }
         }
         Ok(())
@@ -96,8 +96,7 @@ impl<P: Pile> Stack<'_, P> {
         let Stack { label, pile, rt } = self;
         let list: Vec<Digest> = (0..n).map(item).collect(rt.alloc())?;
         if let Err(refusal) = pile.commit(list.as_slice()) {
-            let number = refusal.number();
-            println!(rt; "{label} {n}: refused {number}")?;
+            println!(rt; "{label} {n}: refused {}", refusal.number())?;
             return Ok(());
         }
         let second = pile.seconds().saturating_sub(1);
@@ -115,10 +114,12 @@ fn rounds<P: Pile + Drop>(
     pile: P,
 ) -> anyhow::Result<()> {
     let label = format!(in rt.alloc(); "{hash} {layers}")?;
-    let most = pile.most();
-    let span = pile.span();
-    let deepest = pile.deepest();
-    println!(rt; "{label}: most {most}, span {span}, deepest {deepest}")?;
+    println!(rt;
+        "{label}: most {}, span {}, deepest {}",
+        pile.most(),
+        pile.span(),
+        pile.deepest()
+    )?;
     let mut stack = Stack { label, pile, rt };
     for n in SIZES {
         stack.commit(n)?;

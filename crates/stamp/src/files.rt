@@ -2,7 +2,8 @@
 use anyhow::Context;
 use std::fs;
 
-// Writes the front of a buffer to a file, and answers what the file then holds.
+// Writes the front of a buffer to a file, and answers what the file then holds. Writers are lent a buffer and answer a
+// length, so both come here.
 pub(crate) fn keep(
     rt: &HostRuntime,
     file: &str,

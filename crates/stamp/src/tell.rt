@@ -23,11 +23,11 @@ fn tell_fields<H: Hash>(rt: &HostRuntime, token: &Token) -> anyhow::Result<()> {
     let publication = token.publication();
     println!(rt; "    record {recorded}")?;
     println!(rt; "    second {second}, publication {publication}")?;
-    tell_links(rt, "round", &round[0..rounds])?;
-    tell_links(rt, "calendar", &calendar[0..calendars])?;
+    tell_links(rt, "round", &round[..rounds])?;
+    tell_links(rt, "calendar", &calendar[..calendars])?;
     let start = leaf::<H>(&recorded);
-    let reached = follow::<RoundNodes<H>>(&start, &round[0..rounds]);
-    let root = follow::<CalendarNodes<H>>(&reached, &calendar[0..calendars]);
+    let reached = follow::<RoundNodes<H>>(&start, &round[..rounds]);
+    let root = follow::<CalendarNodes<H>>(&reached, &calendar[..calendars]);
     println!(rt; "    leads to {root}")?;
     Ok(())
 }

@@ -83,7 +83,7 @@ impl<H: Hash> Tree for Calendars<H> {
     type Nodes = CalendarNodes<H>;
 
     fn root(nodes: &[Digest]) -> Option<Digest> {
-        calendar_root::<CalendarNodes<H>, Slice<Digest>>(&Slice::new(nodes), last(nodes)?)
+        calendar_root::<CalendarNodes<H>, _>(&Slice::new(nodes), last(nodes)?)
     }
 
     fn path(
@@ -92,19 +92,14 @@ impl<H: Hash> Tree for Calendars<H> {
         links: &mut [Link<Digest>],
     ) -> Result<usize, PathRefusal> {
         let publication = last(nodes).ok_or(PathRefusal::Absent)?;
-        calendar_path::<CalendarNodes<H>, Slice<Digest>>(
-            &Slice::new(nodes),
-            publication,
-            place,
-            links,
-        )
+        calendar_path::<CalendarNodes<H>, _>(&Slice::new(nodes), publication, place, links)
     }
 }
 
-// Node i: bytes that count up from 3 * i.
+// Node i: bytes that count up from 3 * i. The programs share no crate, so each makes its samples itself.
 fn node(i: u32) -> Digest {
     let first = (i.wrapping_mul(3) & 0xff) as u8;
-    Digest::from(array::from_fn(|k| first.wrapping_add((k & 0xff) as u8)))
+    Digest::from(array::from_fn(|k| first.wrapping_add(k as u8)))
 }
 
 // Adds the links of a node's path to the bytes, and answers whether they lead from it to the root.
