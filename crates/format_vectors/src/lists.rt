@@ -5,6 +5,7 @@ use anyhow::{anyhow, ensure};
 use digest::Hash;
 use roots::{Entry, Holder, PrintedList, Roots, print_list};
 use std::alloc::{AllocError, Global};
+use wire::Report;
 
 fn second_at(list: &PrintedList, place: usize) -> Option<u32> {
     list.entry(place).map(|entry| entry.second)
@@ -72,14 +73,9 @@ pub(crate) fn list_case<'a, H: Hash>(
 ) -> anyhow::Result<()> {
     let name = case.name;
     if let Err(fault) = holder.load(case.bytes) {
-        let report = fault.report();
-        println!(rt;
-            "{name}: refused {} {} {}, holds {}",
-            report.number,
-            report.layer,
-            report.place,
-            holder.list().count()
-        )?;
+        let report = Report::from(fault);
+        let count = holder.list().count();
+        println!(rt; "{name}: refused {report}, holds {count}")?;
         return Ok(());
     }
     let list = holder.list();

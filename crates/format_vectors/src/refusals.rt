@@ -1,15 +1,15 @@
 // What the writers refuse.
 use crate::buffer::FILL;
-use crate::tokens::blank;
 use digest::Digest;
 use roots::{Entry, PrintRefusal, print_list};
 use sha256::Sha256;
 use std::array;
 use token::WriteRefusal;
+use tree::Link;
 use writer::Fields;
 
 // What one of the writers refuses.
-#[derive(Clone, Copy)]
+#[derive(Clone, Copy, Debug, PartialEq, Eq)]
 enum Refusal {
     Write(WriteRefusal),
     Print(PrintRefusal),
@@ -42,7 +42,7 @@ fn written(
     (second, publication): (u32, u32),
     room: usize,
 ) -> Result<usize, Refusal> {
-    let links = [blank(); 65];
+    let links = [Link::default(); 65];
     let mut buffer = [FILL; 3300];
     let fields = Fields {
         recorded: Digest::default(),

@@ -4,16 +4,9 @@ use crate::cases::Case;
 use anyhow::{anyhow, ensure};
 use digest::{Digest, Hash, leaf};
 use token::{Token, read};
-use tree::{CalendarNodes, Link, RoundNodes, Side, follow};
+use tree::{CalendarNodes, Link, RoundNodes, follow};
+use wire::Report;
 use writer::Fields;
-
-// A link that stands for none, where links are written: Link has no Default, and the programs share no crate.
-pub(crate) fn blank() -> Link<Digest> {
-    Link {
-        side: Side::Right,
-        sibling: Digest::default(),
-    }
-}
 
 // The first and the last link of a path, if it has any.
 fn show_ends(rt: &HostRuntime, path: &str, links: &[Link<Digest>]) -> anyhow::Result<()> {
@@ -64,8 +57,8 @@ fn show_fields<H: Hash>(rt: &HostRuntime, token: &Token, fields: &Fields) -> any
 
 // A token that was read.
 fn show_token<H: Hash>(rt: &HostRuntime, name: &str, token: &Token) -> anyhow::Result<()> {
-    let mut round = [blank(); 64];
-    let mut calendar = [blank(); 31];
+    let mut round = [Link::default(); 64];
+    let mut calendar = [Link::default(); 31];
     let rounds = token.round_links(&mut round);
     let calendars = token.calendar_links(&mut calendar);
     let second = token.second();
@@ -90,11 +83,7 @@ pub(crate) fn token_case<H: Hash>(rt: &HostRuntime, case: Case<'_>) -> anyhow::R
     match read::<H>(case.bytes) {
         Ok(token) => show_token::<H>(rt, name, &token),
         Err(fault) => {
-            let report = fault.report();
-            println!(rt;
-                "{name}: refused {} {} {}",
-                report.number, report.layer, report.place
-            )?;
+            println!(rt; "{name}: refused {}", Report::from(fault))?;
             Ok(())
         }
     }
