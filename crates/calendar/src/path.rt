@@ -22,6 +22,7 @@ fn link_to<J: Joining, R: Row<Node = J::Node>>(row: &R, sibling: Sibling) -> Lin
 }
 
 // Writes the path of a second at the front of the links, from its last link, at the root, down to its first.
+// Not one with that of tree: a function for both would have to ask of its callers what they pass for the roots.
 fn write_path<J: Joining, R: Row<Node = J::Node>>(
     row: &R,
     publication: u32,
