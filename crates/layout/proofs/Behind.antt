@@ -4,6 +4,7 @@ use Rattle.std.proofs.lemmas.List.{take_rest}
 use Rattle.wire.specs.Faults.{unless}
 use Rattle.std.specs.Simd.{first_chunks}
 use Rattle.wire.specs.Bytes.{number_at}
+use Rattle.wire.proofs.Numbers.{told_is}
 use Rattle.layout.specs.declared.fault.Fault.{Fault}
 use Rattle.layout.specs.declared.fault.Fault.TheVariants.{Side, Publication, Second}
 use Rattle.layout.specs.Faults.{bad_side, token_fault, check_answer, Headed}
@@ -38,3 +39,6 @@ module _ (number : ℕ) (bytes : List ℕ) (h : Headed number bytes) {links : Li
 
       pub faultless : number_at bytes 38 ≤ number_at bytes 42 → Ok tt ≡ check_answer number bytes
       faultless covered = answered number bytes (past_all number bytes h.rest (ap (bad_side 48) (sym seen) ∙ good) early covered)
+
+-- the tests in their order
+pub ruleset tests = (few, at_place, at_late, at_uncovered, faultless, told_is)

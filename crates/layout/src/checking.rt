@@ -54,7 +54,7 @@ fn head<H: Hash>(bytes: &[u8]) -> Result<(), Fault>
 }
 
 // The first fault of bytes that are read for a hash; a token has none.
-#[tactic(auto, using(crate::proofs::Behind::few))]
+#[tactic(auto, using(crate::proofs::Behind::tests))]
 pub fn check<H: Hash>(bytes: &[u8]) -> Result<(), Fault>
     ensures answer { result ≡ check_answer H.Hash.numbered bytes.now }
     ensures exact { TokenLaw }

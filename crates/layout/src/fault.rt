@@ -22,7 +22,7 @@ pub enum Fault {
 impl From<Fault> for Report {
     ghost from_gives = { λ fault report. report ≡ fault_report fault };
 
-    // The fault's number, its layer and its place.
+    // The fault's number, its layer and its place. Some variants hold a value, so `as` gives no number.
     fn from(fault: Fault) -> Report
         ensures { result ≡ fault_report fault }
     {

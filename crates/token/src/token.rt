@@ -71,6 +71,7 @@ impl<'a> Token<'a> {
     }
 
     // Writes the round links as records at the front of `out`, and answers how many there are.
+    // The arrays differ in size, so there are two methods over one `fill`.
     pub fn round_links(&self, out: &mut [Link<Digest>; 64]) -> usize
         ensures count { result ≡ min (length (held self.now).round) 64 }
         ensures links { out.new ≡ over (take result (content (held self.now)).round) out.old }
