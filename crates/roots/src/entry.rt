@@ -7,7 +7,7 @@ use digest::Digest;
 use wire::number_at;
 
 // The root of the calendar as it stood at a second.
-#[derive(Clone, Copy, PartialEq, Eq)]
+#[derive(Clone, Copy, Debug, PartialEq, Eq)]
 pub struct Entry {
     pub second: u32,
     pub root: Digest,

@@ -21,7 +21,7 @@ pub struct Holder<'a, D> {
 }
 
 // What a look-up found, and at how many entries it looked.
-#[derive(Clone, Copy, PartialEq, Eq)]
+#[derive(Clone, Copy, Debug, PartialEq, Eq)]
 pub struct LookUp {
     pub root: Option<Digest>,
     pub looks: u8,

@@ -6,11 +6,11 @@ ghost use Rattle.layout.specs.Parts.{side_of, link_of};
 use digest::Digest;
 use tree::{Link, Side};
 
-// The side with a number: 0 has the sibling on the right.
+// The side with a number: 0 has the sibling on the right; a token has no other number than 0 and 1.
 fn side(number: u8) -> Side
     ensures { result ≡ side_of number }
 {
-    if number == 0 { Side::Right } else { Side::Left }
+    Side::try_from(number).unwrap_or(Side::Left)
 }
 
 // The link in 33 bytes: its side, and the sibling.

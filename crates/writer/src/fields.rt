@@ -2,7 +2,7 @@
 use digest::Digest;
 use tree::Link;
 
-#[derive(Clone, Copy)]
+#[derive(Clone, Copy, Debug, PartialEq, Eq)]
 pub struct Fields<'a> {
     pub recorded: Digest,
     pub second: u32,
