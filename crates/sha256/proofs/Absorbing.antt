@@ -8,7 +8,7 @@ use Rattle.sha256.specs.declared.state.State.{State}
 use Rattle.sha256.specs.Words.{eight_bytes}
 use Rattle.sha256.specs.Sha256.{zeros, padding, padded, initial, compressed, final}
 use Rattle.sha256.specs.Tail.{tail_blocks, tail}
-use Rattle.sha256.proofs.Chunks.{take-first_chunks, absorbed_add, absorbed_front, chunks_absorbed}
+use Rattle.digest.proofs.Chunks.{take-first_chunks, absorbed_add, absorbed_front, chunks_absorbed}
 use Rattle.sha256.proofs.Ends.{tail_sized}
 
 length_padded : (message : List ℕ) → length (padded message) ≡ length message + 9 + zeros (length message)

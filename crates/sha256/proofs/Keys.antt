@@ -5,7 +5,7 @@ use Rattle.std.specs.Simd.{first_chunks}
 use Rattle.std.proofs.lemmas.List.{take_more}
 use Rattle.std.proofs.lemmas.List.Sums.{fold-append}
 use Rattle.std.proofs.lemmas.List.FromFn.{get_or-map-range_with_len, length-map-range_with_len}
-use Rattle.sha256.proofs.Chunks.{fold_chunks}
+use Rattle.digest.proofs.Chunks.{fold_chunks}
 use Rattle.sha256.specs.declared.state.State.{State}
 use Rattle.sha256.specs.Words.{◌⊞◌, Ch, Σ1}
 use Rattle.sha256.specs.Constants.{K}

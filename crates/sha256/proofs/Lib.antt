@@ -4,6 +4,4 @@ pub mod Ends
 pub mod Absorbing
 pub mod Choice
 pub mod Turns
-pub mod Made
-pub mod Chunks
 pub mod Keys

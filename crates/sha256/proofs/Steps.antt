@@ -5,7 +5,7 @@ use Rattle.std.proofs.lemmas.List.{take_more_set, get_or-take, get_or-drop}
 use Rattle.std.proofs.lemmas.List.FromFn.{map-range_with_len_more}
 use Rattle.std.specs.Int.{w32, from_be_bytes}
 use Rattle.std.specs.Simd.{first_chunks}
-use Rattle.sha256.proofs.Chunks.{chunk_at}
+use Rattle.digest.proofs.Chunks.{chunk_at}
 use Rattle.sha256.specs.Words.{word}
 use Rattle.sha256.specs.Sha256.{next_word, schedule}
 

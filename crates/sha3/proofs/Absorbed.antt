@@ -5,7 +5,7 @@ use Rattle.std.specs.Simd.{first_chunks}
 use Rattle.digest.specs.Blocks.{block, absorbed}
 use Rattle.digest.proofs.Blocks.{absorbed_more}
 use Rattle.sha3.specs.Sha3.{padding, padded, absorb, sponge, blocks, soaked}
-use Rattle.sha3.proofs.Chunks.{absorbed_front, chunks_absorbed}
+use Rattle.digest.proofs.Chunks.{absorbed_front, chunks_absorbed}
 use Rattle.sha3.proofs.Padding.{last_is}
 
 -- the whole blocks of the message, and then the last block, which is made of what is left

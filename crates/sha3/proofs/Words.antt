@@ -4,7 +4,7 @@ use Rattle.std.proofs.lemmas.List.{drop_all, drop-drop, get_or-drop, length-drop
 use Rattle.std.specs.Int.{w64, from_le_bytes, to_le_bytes}
 use Rattle.std.specs.Simd.{first_chunks}
 use Rattle.sha3.specs.Sha3.{little, word}
-use Rattle.sha3.proofs.Chunks.{chunk_at}
+use Rattle.digest.proofs.Chunks.{chunk_at}
 
 pub little_first : (bs : List ℕ) → little bs ≡ get_or bs 0 0 + 256 * little (drop 1 bs)
 unfolding little

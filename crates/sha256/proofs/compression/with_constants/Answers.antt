@@ -1,7 +1,7 @@
 use Rattle.std.proofs.Common.{rules}
 use Rattle.sha256.specs.Constants.{K}
 use Rattle.sha256.specs.Keyed.{key, keyed}
-use Rattle.sha256.proofs.Made.{made}
+use Rattle.digest.proofs.Made.{made}
 use Rattle.sha256.proofs.compression.with_constants.Goals as goal
 
 pub returns : goal.returns

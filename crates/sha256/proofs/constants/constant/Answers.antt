@@ -5,13 +5,10 @@ use Rattle.std.specs.Option.{option_copied}
 use Rattle.std.specs.Slice.{IsItemAt}
 use Rattle.std.proofs.lemmas.Grind.{common_steps}
 use Rattle.std.proofs.lemmas.Option.{gets}
+use Rattle.digest.proofs.Copied.{copied_is}
 use Rattle.sha256.specs.Constants.{K}
 use Rattle.sha256.proofs.Roots.{rule}
 use Rattle.sha256.proofs.constants.constant.Goals as goal
-
-copied_is : (xs : List ℕ) (i : ℕ) (r : Option (Bor ℕ)) → IsItemAt xs i r → option_copied r ≡ slice_get xs i
-copied_is xs i None h = grind (arith, common_steps, gets)
-copied_is xs i (Some x) h = grind (arith, common_steps, gets)
 
 pub returns-clause-value : goal.returns-clause-value
 unfolding K

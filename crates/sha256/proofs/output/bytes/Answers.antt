@@ -1,6 +1,6 @@
 use Rattle.std.proofs.Common.{rules, ◌/◌, ◌%◌, [], ◌∷◌, get_or}
 use Rattle.sha256.specs.Words.{word_bytes}
-use Rattle.sha256.proofs.Made.{made}
+use Rattle.digest.proofs.Made.{made}
 use Rattle.sha256.proofs.output.bytes.Goals as goal
 
 pub returns : goal.returns

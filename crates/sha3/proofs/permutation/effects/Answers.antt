@@ -1,6 +1,6 @@
 use Rattle.std.proofs.Common.{rules}
 use Rattle.sha3.specs.Keccak.{effect, effects, rotl}
-use Rattle.sha3.proofs.Made.{made}
+use Rattle.digest.proofs.Made.{made}
 use Rattle.sha3.proofs.permutation.effects.Goals as goal
 
 pub returns : goal.returns

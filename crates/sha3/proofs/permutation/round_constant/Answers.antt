@@ -6,13 +6,10 @@ use Rattle.std.specs.Slice.{IsItemAt}
 use Rattle.std.proofs.lemmas.Bool.{cases_lt, cond_above, cond_below}
 use Rattle.std.proofs.lemmas.Grind.{common_steps}
 use Rattle.std.proofs.lemmas.Option.{gets, slice_get-get_or, slice_get_past}
+use Rattle.digest.proofs.Copied.{copied_is}
 use Rattle.sha3.specs.Keccak.{constants, packed, unpacked}
 use Rattle.sha3.specs.Tables.{constant_of}
 use Rattle.sha3.proofs.permutation.round_constant.Goals as goal
-
-copied_is : (xs : List ℕ) (i : ℕ) (r : Option (Bor ℕ)) → IsItemAt xs i r → option_copied r ≡ slice_get xs i
-copied_is xs i None h = grind (arith, common_steps, gets)
-copied_is xs i (Some x) h = grind (arith, common_steps, gets)
 
 constant_is : (k : ℕ) → slice_get constants k ≡ constant_of k
 unfolding constants packed

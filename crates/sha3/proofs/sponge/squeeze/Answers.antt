@@ -1,7 +1,7 @@
 use Rattle.std.proofs.Common.{◌≡◌, ◌/◌, ◌%◌, get_or, ◌∙◌, rules, arith}
 use Rattle.std.specs.Int.{w64, to_le_bytes}
 use Rattle.sha3.specs.Sha3.{byte, squeezed}
-use Rattle.sha3.proofs.Made.{made}
+use Rattle.digest.proofs.Made.{made}
 use Rattle.sha3.proofs.Words.{byte_of}
 use Rattle.sha3.proofs.sponge.squeeze.Goals as goal
 
