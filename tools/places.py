@@ -84,6 +84,7 @@ def point1(files):
     yield from finds(files, r"if [^\n]* \{\s*Ok\([^\n]*\)\s*\} else \{\s*Err\([^\n]*\)\s*\}")
     yield from finds(files, r"let (?:Some|Ok)\([^\n]*\) = [^;{]* else \{\s*(?:return (?:None|Err\([^;]*\));|unreachable\(\))\s*\}")
     yield from finds(files, r"if \w[\w.]*\([^\n]*\)\.is_(?:none|err)\(\) \{\s*return")
+    yield from finds(files, r"(?:None|Err\(_\)) => unreachable\(\)")
     yield from finds(files, r"Result<[\w<>]+, u8>")
     yield from finds(files, r"\.number == \d")
     yield from finds(files, r"^ +(?:pub(?:\(crate\))? )?\w+: bool,$")
@@ -105,6 +106,7 @@ def point2(files):
 
 def point3(files):
     yield from finds(files, r"^ *while (?!let)[^\n]*\{")
+    yield from finds(files, r"^ +\w+ [+-]= 1;$")
     for name, text in files:
         for m in re.finditer(r"^( *)for (\w+) in [^\n]*\.\.[^\n]*\{\n(.*?)^\1\}", text, re.M | re.S):
             if re.search(rf"\[[^\]]*\b{m.group(2)}\b[^\]]*\]|\(\w+, {m.group(2)}\)", m.group(3)):
@@ -115,7 +117,7 @@ def point3(files):
 
 
 def point4(files):
-    yield from finds(files, r"^impl(?:<[^\n]*>)? (?:PartialEq|Eq|PartialOrd|Ord|Clone|Copy|Debug|Hash) for \w+")
+    yield from finds(files, r"^impl(?:<[^\n]*>)? (?:PartialEq|Eq|PartialOrd|Ord|Clone|Copy|Debug) for \w+")
     yield from finds(files, r"^impl fmt::Display for \w+")
     yield from finds(files, r"fn (?:of|number|report|side|link|raw|entry_of|bytes_of|of_raw)\((?:self|raw|number|bytes|link|entry)[^)]*\)")
     yield from finds(files, r"let number = report\.number;\n[^;]*;\n[^;]*;")
