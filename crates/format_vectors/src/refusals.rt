@@ -8,7 +8,7 @@ use token::WriteRefusal;
 use tree::Link;
 use writer::Fields;
 
-// What one of the writers refuses.
+// Why one of the writers turns a call away.
 #[derive(Clone, Copy, Debug, PartialEq, Eq)]
 enum Refusal {
     Write(WriteRefusal),

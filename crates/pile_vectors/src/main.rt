@@ -17,7 +17,7 @@ const SIZES: [u32; 8] = [0, 1, 8, 9, 64, 65, 256, 257];
 // How many seconds each calendar can hold.
 const SECONDS: usize = 10;
 
-// 32 bytes that count up from a first one. The programs share no crate, so each makes its samples itself.
+// 32 bytes that count up from a first one. No library holds samples, so each program makes its own.
 fn counted(first: u8) -> [u8; 32] {
     array::from_fn(|k| first.wrapping_add(k as u8))
 }
@@ -141,7 +141,7 @@ fn masked<P: Pile>(below: P, first: u8) -> Masking<P> {
     Masking::over(below, Seed::from(counted(first)))
 }
 
-// Stacks over a head, each over a calendar of its own.
+// Stacks over a head; all are lent the same memory, one after another.
 fn stacks<H: Hash>(rt: &HostRuntime, hash: &str) -> anyhow::Result<()> {
     let mut row = [Digest::default(); SECONDS];
     rounds(rt, hash, "head", Head::<H>::over(&mut row))?;

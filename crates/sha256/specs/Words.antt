@@ -24,7 +24,7 @@ Ch x y z = bit_xor (bit_and x y) (bit_and (complement x) z)
 unfoldable pub Maj : ℕ → ℕ → ℕ → ℕ
 Maj x y z = bit_xor (bit_xor (bit_and x y) (bit_and x z)) (bit_and y z)
 
--- x turned by a, by b and by c
+-- the xor of x turned by a, by b and by c
 unfoldable pub Σ : ℕ → ℕ → ℕ → ℕ → ℕ
 Σ a b c x = bit_xor (bit_xor (ROTR a x) (ROTR b x)) (ROTR c x)
 
@@ -34,7 +34,7 @@ unfoldable pub Σ0 : ℕ → ℕ
 unfoldable pub Σ1 : ℕ → ℕ
 Σ1 x = Σ 6 11 25 x
 
--- x turned by a and by b, and moved by c
+-- the xor of x turned by a, turned by b, and moved by c
 unfoldable pub σ : ℕ → ℕ → ℕ → ℕ → ℕ
 σ a b c x = bit_xor (bit_xor (ROTR a x) (ROTR b x)) (SHR c x)
 

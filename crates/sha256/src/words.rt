@@ -16,7 +16,7 @@ pub(crate) fn majority(x: u32, y: u32, z: u32) -> u32
     (x & y) ^ (x & z) ^ (y & z)
 }
 
-// x turned to the right by A, by B and by C.
+// The xor of x turned to the right by A, by B and by C.
 pub(crate) fn big_sigma<const A: u32, const B: u32, const C: u32>(x: u32) -> u32
     requires a { (0 < A) × (A < 32) }
     requires b { (0 < B) × (B < 32) }
@@ -26,7 +26,7 @@ pub(crate) fn big_sigma<const A: u32, const B: u32, const C: u32>(x: u32) -> u32
     x.rotate_right(A) ^ x.rotate_right(B) ^ x.rotate_right(C)
 }
 
-// x turned to the right by A and by B, and moved by C.
+// The xor of x turned to the right by A, turned by B, and moved by C.
 pub(crate) fn small_sigma<const A: u32, const B: u32, const C: u32>(x: u32) -> u32
     requires a { (0 < A) × (A < 32) }
     requires b { (0 < B) × (B < 32) }

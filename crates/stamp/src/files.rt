@@ -2,8 +2,8 @@
 use anyhow::Context;
 use std::fs;
 
-// Writes the front of a buffer to a file, and answers what the file then holds. Writers are lent a buffer and answer a
-// length, so both come here.
+// Writes the front of a buffer to a file, and answers what the file then holds. The buffer comes with a length, since
+// writers are lent the one and answer the other.
 pub(crate) fn keep(
     rt: &HostRuntime,
     file: &str,

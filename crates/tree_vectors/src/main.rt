@@ -96,7 +96,7 @@ impl<H: Hash> Tree for Calendars<H> {
     }
 }
 
-// Node i: bytes that count up from 3 * i. The programs share no crate, so each makes its samples itself.
+// Node i: bytes that count up from 3 * i. No library holds samples, so each program makes its own.
 fn node(i: u32) -> Digest {
     let first = (i.wrapping_mul(3) & 0xff) as u8;
     Digest::from(array::from_fn(|k| first.wrapping_add(k as u8)))

@@ -14,7 +14,7 @@ const LENGTHS: [usize; 32] = [
     137, 271, 272, 273, 1000, 16384, 65535, 65536, 65537,
 ];
 
-// The standards' own examples, but for the long one.
+// The standards' own examples, but for the one of 200 bytes a3.
 const PUBLISHED: [(&str, &[u8]); 4] = [
     ("empty", b""),
     ("abc", b"abc"),

@@ -16,7 +16,7 @@ abbrev pub number_at : List ℕ → ℕ → ℕ
 number_at xs place =
     slice_index xs place * 16777216 + slice_index xs (place + 1) * 65536 + slice_index xs (place + 2) * 256 + slice_index xs (place + 3)
 
--- that number, or none where the list has fewer bytes behind the place
+-- that number, or none where the list has fewer than four bytes from the place on
 abbrev pub number_told : List ℕ → ℕ → Option ℕ
 number_told xs place = cond (nat_le (place + 4) (length xs)) (Some (number_at xs place)) None
 
