@@ -10,21 +10,18 @@ use crate::value::Digest;
 pub const LONGEST: usize = 65536;
 
 pub trait Hash {
+    // The hash's number in files.
     const NUMBER: u8;
+
+    // the same number
+    ghost NUMBER: { ℕ };
 
     // the digest of each message
     ghost digested: { List ℕ → Digest };
-
-    // the hash's number in files
-    ghost numbered: { ℕ };
-
-    // The hash's number.
-    fn code() -> u8
-        ensures { result ≡ numbered };
 
     // The message's digest, or a refusal exactly where it is too long.
     fn digest(message: &[u8]) -> Result<Digest, Refusal>
         ensures { result ≡ answered digested message.now };
 
-    ghost within: { (1 ≤ numbered) × (numbered ≤ 255) };
+    ghost within: { (1 ≤ NUMBER) × (NUMBER ≤ 255) };
 }

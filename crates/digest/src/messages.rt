@@ -5,15 +5,10 @@ ghost use Rattle.digest.specs.Messages.{two_bytes, four_bytes, leaf_message, nod
 
 use crate::hash::Hash;
 use crate::seed::Seed;
+use crate::tag::Tag;
 use crate::value::Digest;
 
 const LEAF: u8 = 0;
-
-// The tag of the nodes of a round.
-pub const ROUND: u8 = 1;
-
-// The tag of the nodes of the calendar.
-pub const CALENDAR: u8 = 2;
 
 const EMPTY: u8 = 3;
 
@@ -65,11 +60,11 @@ pub fn leaf<H: Hash>(of: &Digest) -> Digest
     of_short::<H>(&message)
 }
 
-// Two nodes joined, under the tag of their tree.
-pub fn node<H: Hash, const TAG: u8>(left: &Digest, right: &Digest) -> Digest
-    ensures { result ≡ H.Hash.digested (node_message TAG left.now right.now) }
+// Two nodes of a tree, joined under its tag.
+pub fn node<H: Hash, T: Tag>(left: &Digest, right: &Digest) -> Digest
+    ensures { result ≡ H.Hash.digested (T.Tag.message left.now right.now) }
 {
-    of_short::<H>(&joined(TAG, left, right))
+    of_short::<H>(&joined(T::BYTE, left, right))
 }
 
 // A second in which no record came.

@@ -25,7 +25,7 @@ fn bad_side(links: &[[u8; 33]]) -> Option<usize>
 // The tests of a token's head: its length, mark, version, hash, and the two counts.
 #[tactic(auto, using(crate::proofs::Faulted::head_tests))]
 fn head<H: Hash>(bytes: &[u8]) -> Result<(), Fault>
-    ensures { MatchResult result (λ _. Headed H.Hash.numbered bytes.now) (λ fault. token_fault H.Hash.numbered bytes.now ≡ Some fault) }
+    ensures { MatchResult result (λ _. Headed H.NUMBER bytes.now) (λ fault. token_fault H.NUMBER bytes.now ≡ Some fault) }
 {
     if bytes.len() < HEAD {
         return Err(Fault::Short(bytes.len()));
@@ -36,7 +36,7 @@ fn head<H: Hash>(bytes: &[u8]) -> Result<(), Fault>
     if u16::from_be_bytes([*high, *low]) != VERSION {
         return Err(Fault::Version);
     }
-    if *number != H::code() {
+    if *number != H::NUMBER {
         return Err(Fault::Hash);
     }
     let round = bytes[46] as usize;
@@ -56,7 +56,7 @@ fn head<H: Hash>(bytes: &[u8]) -> Result<(), Fault>
 // The first fault of bytes that are read for a hash; a token has none.
 #[tactic(auto, using(crate::proofs::Behind::tests))]
 pub fn check<H: Hash>(bytes: &[u8]) -> Result<(), Fault>
-    ensures answer { result ≡ check_answer H.Hash.numbered bytes.now }
+    ensures answer { result ≡ check_answer H.NUMBER bytes.now }
     ensures exact { TokenLaw }
     ensures longest { LongestLaw }
 {

@@ -40,8 +40,8 @@ impl<'a, D: Hash> Holder<'a, D> {
 
     // Takes the list that these bytes print in place of its own; a refusal leaves it as it was.
     pub fn load(&mut self, bytes: &'a [u8]) -> Result<(), ListFault>
-        ensures outcome { result ≡ loaded (list_answer D.Hash.numbered bytes.now) }
-        ensures after { listed self.new.list.entries.now ≡ held_after (list_answer D.Hash.numbered bytes.now) (listed self.old.list.entries.now) }
+        ensures outcome { result ≡ loaded (list_answer D.NUMBER bytes.now) }
+        ensures after { listed self.new.list.entries.now ≡ held_after (list_answer D.NUMBER bytes.now) (listed self.old.list.entries.now) }
         ensures order { RisingLaw }
         ensures back { ReadsBack }
     {

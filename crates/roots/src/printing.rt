@@ -30,7 +30,7 @@ fn write_list(number: u8, entries: &[Entry], out: &mut [u8])
 #[tactic(auto, using(crate::proofs::Refused::tests))]
 pub fn print_list<H: Hash>(entries: &[Entry], out: &mut [u8]) -> Result<usize, PrintRefusal>
     ensures outcome { result ≡ print_answer entries.now (length out.old) }
-    ensures after { out.new ≡ print_after H.Hash.numbered entries.now out.old }
+    ensures after { out.new ≡ print_after H.NUMBER entries.now out.old }
     ensures law { WrittenLaw }
 {
     if entries.len() > MOST {
@@ -43,6 +43,6 @@ pub fn print_list<H: Hash>(entries: &[Entry], out: &mut [u8]) -> Result<usize, P
     if out.len() < length {
         return Err(PrintRefusal::Short);
     }
-    write_list(H::code(), entries, out);
+    write_list(H::NUMBER, entries, out);
     Ok(length)
 }

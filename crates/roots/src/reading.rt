@@ -22,7 +22,7 @@ pub(crate) const ENTRY: usize = 36;
 
 // The list that these bytes print, for a hash.
 pub fn read_list<H: Hash>(bytes: &[u8]) -> Result<PrintedList<'_>, ListFault>
-    ensures { told (λ l. listed l.entries.now) result ≡ list_answer H.Hash.numbered bytes.now }
+    ensures { told (λ l. listed l.entries.now) result ≡ list_answer H.NUMBER bytes.now }
 {
     if bytes.len() < HEAD {
         return Err(ListFault::Short);
@@ -33,7 +33,7 @@ pub fn read_list<H: Hash>(bytes: &[u8]) -> Result<PrintedList<'_>, ListFault>
     if u16::from_be_bytes([*high, *low]) != VERSION {
         return Err(ListFault::Version);
     }
-    if *number != H::code() {
+    if *number != H::NUMBER {
         return Err(ListFault::Hash);
     }
     let count = u16::from_be_bytes([*upper, *lower]) as usize;

@@ -43,13 +43,9 @@ impl Hash for Sha256 {
 
     ghost digested = { sha256 };
 
-    ghost numbered = { 1 };
+    ghost NUMBER = { 1 };
 
     ghost within = { Prim.search rules };
-
-    fn code() -> u8 {
-        Self::NUMBER
-    }
 
     fn digest(message: &[u8]) -> Result<Digest, Refusal> {
         if message.len() > LONGEST {

@@ -14,13 +14,9 @@ impl Hash for Sha3 {
 
     ghost digested = { sha3_256 };
 
-    ghost numbered = { 2 };
+    ghost NUMBER = { 2 };
 
     ghost within = { Prim.search rules };
-
-    fn code() -> u8 {
-        Self::NUMBER
-    }
 
     fn digest(message: &[u8]) -> Result<Digest, Refusal> {
         if message.len() > LONGEST {

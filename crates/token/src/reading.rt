@@ -30,8 +30,8 @@ fn parted(bytes: &[u8]) -> Token<'_>
 
 // The token in these bytes, read for a hash, or their first fault.
 pub fn read<H: Hash>(bytes: &[u8]) -> Result<Token<'_>, Fault>
-    ensures answer { told result ≡ read_answer H.Hash.numbered bytes.now }
-    ensures back { IfOk result (λ token. layout H.Hash.numbered (content (held token)) ≡ bytes.now) }
+    ensures answer { told result ≡ read_answer H.NUMBER bytes.now }
+    ensures back { IfOk result (λ token. layout H.NUMBER (content (held token)) ≡ bytes.now) }
 {
     check::<H>(bytes)?;
     Ok(parted(bytes))

@@ -1,8 +1,7 @@
 // How two nodes become one: what the trees over a kind of node need, and no more.
 ghost use Rattle.std.specs.Prelude.{◌≡◌};
-ghost use Rattle.digest.specs.Messages.{node_message};
 
-use digest::{CALENDAR, Digest, Hash, ROUND, node};
+use digest::{Calendar, Digest, Hash, Round, Tag, node};
 use std::marker::PhantomData;
 
 pub trait Joining {
@@ -16,23 +15,24 @@ pub trait Joining {
         ensures { result ≡ joined left.now right.now };
 }
 
-// The nodes of the trees with a tag, under a hash.
-pub struct Nodes<H, const TAG: u8> {
+// The nodes of the tree with a tag, under a hash.
+pub struct Nodes<H, T> {
     hash: PhantomData<H>,
+    tag: PhantomData<T>,
 }
 
 // The nodes of a round.
-pub type RoundNodes<H> = Nodes<H, ROUND>;
+pub type RoundNodes<H> = Nodes<H, Round>;
 
 // The nodes of the calendar.
-pub type CalendarNodes<H> = Nodes<H, CALENDAR>;
+pub type CalendarNodes<H> = Nodes<H, Calendar>;
 
-impl<H: Hash, const TAG: u8> Joining for Nodes<H, TAG> {
+impl<H: Hash, T: Tag> Joining for Nodes<H, T> {
     type Node = Digest;
 
-    ghost joined = { λ left right. H.Hash.digested (node_message TAG left right) };
+    ghost joined = { λ left right. H.Hash.digested (T.Tag.message left right) };
 
     fn join(left: &Digest, right: &Digest) -> Digest {
-        node::<H, TAG>(left, right)
+        node::<H, T>(left, right)
     }
 }

@@ -1,7 +1,6 @@
 // Trees over lists of nodes, paths and shapes, for any kind of node with a joining.
 #![tactic(auto)]
 
-mod blank;
 mod descent;
 mod following;
 mod group;

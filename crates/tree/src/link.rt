@@ -3,8 +3,9 @@ ghost use Rattle.std.specs.Prelude.{◌≡◌, Decides};
 ghost use Rattle.tree.specs.Sides.{side_number, side_answer};
 
 // Where the sibling stands: right of the node, or left of it.
-#[derive(Clone, Copy, Debug, PartialEq, Eq)]
+#[derive(Clone, Copy, Debug, Default, Eq, PartialEq)]
 pub enum Side {
+    #[default]
     Right = 0,
     Left = 1,
 }
@@ -21,7 +22,7 @@ impl Side {
         self as u8
     }
 
-    // Whether both are one side: what `==` answers.
+    // Whether both are one side. The derived `==` answers the same, and no clause of it says so.
     pub fn is(self, other: Side) -> bool
         ensures { Decides result (self ≡ other) }
     {
@@ -43,7 +44,8 @@ impl TryFrom<u8> for Side {
     }
 }
 
-#[derive(Clone, Copy, Debug, PartialEq, Eq)]
+// A blank one, for places that no link was written to, has a blank sibling on the right.
+#[derive(Clone, Copy, Debug, Default, PartialEq, Eq)]
 pub struct Link<N> {
     pub side: Side,
     pub sibling: N,

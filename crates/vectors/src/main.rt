@@ -2,7 +2,7 @@
 // The expected output comes from outside: tools/expected_vectors.py computes it with python3's hashlib.
 #![tactic(auto)]
 
-use digest::{CALENDAR, Digest, Hash, ROUND, Seed, empty_second, leaf, mask, node};
+use digest::{Calendar, Digest, Hash, Round, Seed, empty_second, leaf, mask, node};
 use sha3::Sha3;
 use sha256::Sha256;
 use std::alloc::{AllocError, Global};
@@ -73,9 +73,9 @@ fn tagged<H: Hash>(rt: &HostRuntime, name: &str) -> anyhow::Result<()> {
     let right = row(32);
     let digest = leaf::<H>(&left);
     println!(rt; "{name} leaf: {digest}")?;
-    let digest = node::<H, ROUND>(&left, &right);
+    let digest = node::<H, Round>(&left, &right);
     println!(rt; "{name} round node: {digest}")?;
-    let digest = node::<H, CALENDAR>(&left, &right);
+    let digest = node::<H, Calendar>(&left, &right);
     println!(rt; "{name} calendar node: {digest}")?;
     let digest = empty_second::<H>();
     println!(rt; "{name} empty second: {digest}")?;
@@ -85,7 +85,7 @@ fn tagged<H: Hash>(rt: &HostRuntime, name: &str) -> anyhow::Result<()> {
 }
 
 fn all<H: Hash>(rt: &HostRuntime, name: &str) -> anyhow::Result<()> {
-    let number = H::code();
+    let number = H::NUMBER;
     println!(rt; "{name} has number {number}")?;
     published::<H>(rt, name)?;
     lengths::<H>(rt, name)?;

@@ -38,9 +38,9 @@ fn put_links(links: &[Link<Digest>], out: &mut [u8])
 fn lay_out<H: Hash>(fields: &Fields, out: &mut [u8]) -> usize
     requires { (Whole (said fields.now)) × (token_length (said fields.now) ≤ length out.old) }
     ensures size { result ≡ token_length (said fields.now) }
-    ensures after { out.new ≡ over (layout H.Hash.numbered (said fields.now)) out.old }
+    ensures after { out.new ≡ over (layout H.NUMBER (said fields.now)) out.old }
 {
-    out[..6].copy_from_slice(&[b'H', b'C', b'T', 0, 1, H::code()]);
+    out[..6].copy_from_slice(&[b'H', b'C', b'T', 0, 1, H::NUMBER]);
     out[6..38].copy_from_slice(fields.recorded.as_bytes());
     out[38..42].copy_from_slice(&fields.second.to_be_bytes());
     out[42..46].copy_from_slice(&fields.publication.to_be_bytes());
@@ -57,8 +57,8 @@ impl Fields<'_> {
     #[tactic(auto, using(crate::proofs::Refused::tests))]
     pub fn write<H: Hash>(&self, out: &mut [u8]) -> Result<usize, WriteRefusal>
         ensures outcome { result ≡ write_answer (said self.now) (length out.old) }
-        ensures after { out.new ≡ write_after result (layout H.Hash.numbered (said self.now)) out.old }
-        ensures reads { OnOk result (parsed H.Hash.numbered (layout H.Hash.numbered (said self.now)) ≡ Ok (said self.now)) }
+        ensures after { out.new ≡ write_after result (layout H.NUMBER (said self.now)) out.old }
+        ensures reads { OnOk result (parsed H.NUMBER (layout H.NUMBER (said self.now)) ≡ Ok (said self.now)) }
         ensures law { WrittenLaw }
     {
         if self.round.len() > MOST_ROUND {

@@ -14,7 +14,7 @@ ordered : (raws : List (List ℕ)) (entries : List Entry) (r t : Bool) → liste
 ordered raws entries r t same e f = ap (λ es. rising 0 (seconds_of es)) (sym same) ∙ ap (rising 0) (sym (seconds_listed raws)) ∙ sym e ∙ f
 
 module _ (g : given.Over) (c : After-rises g) where
-  headed : Headed g.H.Hash.numbered c.args.bytes.now
+  headed : Headed g.H.Hash.NUMBER c.args.bytes.now
   headed =
       record {
         long = omega arith;
@@ -28,7 +28,7 @@ module _ (g : given.Over) (c : After-rises g) where
       }
 
   chunks : listed c.as_chunks.result.0.now ≡ list_entries c.args.bytes.now
-  chunks = chunks_are g.H.Hash.numbered c.args.bytes.now headed c.as_chunks.result.0.now c.as_chunks.ensures.front
+  chunks = chunks_are g.H.Hash.NUMBER c.args.bytes.now headed c.as_chunks.result.0.now c.as_chunks.ensures.front
 
 pub returns-then-not-rises : goal.returns-then-not-rises
 returns-then-not-rises g c =

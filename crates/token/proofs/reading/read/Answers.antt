@@ -12,14 +12,14 @@ use Rattle.token.proofs.reading.read.Goals as goal
 pub parted-requires : goal.parted-requires
 parted-requires g c =
     let bytes : List ℕ = c.args.bytes.now in
-    let number : ℕ = g.H.Hash.numbered in
+    let number : ℕ = g.H.Hash.NUMBER in
     let ok = clean number bytes (unless_ok (token_fault number bytes) _ _ (sym c.in_ok-check.ensures.answer)).0 in
     (ok.long, ok.size)
 
 pub returns-in_err-check : goal.returns-in_err-check
 returns-in_err-check g c =
     let bytes : List ℕ = c.args.bytes.now in
-    let number : ℕ = g.H.Hash.numbered in
+    let number : ℕ = g.H.Hash.NUMBER in
     let p = err_from_is_err_and c.from_residual.result c.from_residual.ensures.1 in
     let fault = unless_err (token_fault number bytes) _ _ (sym c.in_err-check.ensures.answer) in
     rw (p.1, p.2) (record { answer = ap (λ x. unless x (parts_of bytes)) (sym fault); back = tt })
@@ -27,7 +27,7 @@ returns-in_err-check g c =
 pub returns : goal.returns
 returns g c =
     let bytes : List ℕ = c.args.bytes.now in
-    let number : ℕ = g.H.Hash.numbered in
+    let number : ℕ = g.H.Hash.NUMBER in
     let none : token_fault number bytes ≡ None = (unless_ok (token_fault number bytes) _ _ (sym c.in_ok-check.ensures.answer)).0 in
     record {
       answer = ap Ok c.parted.ensures ∙ ap (λ fault. unless fault (parts_of bytes)) (sym none);

@@ -5,8 +5,8 @@ use Rattle.writer.proofs.writing.lay_out.Goals as goal
 
 pub returns-clause-after : goal.returns-clause-after
 returns-clause-after g c =
-    laid_out g.H.Hash.numbered (said c.args.fields.now) c.args.out.now
-    (c.copy_from_slice.ensures.after ∙ ap (λ n. 72 ∷ 67 ∷ 84 ∷ 0 ∷ 1 ∷ n ∷ []) c.code.ensures)
+    laid_out g.H.Hash.NUMBER (said c.args.fields.now) c.args.out.now
+    (c.copy_from_slice.ensures.after ∙ ap (λ n. 72 ∷ 67 ∷ 84 ∷ 0 ∷ 1 ∷ n ∷ []) c.NUMBER.ensures)
     (c.copy_from_slice-2.ensures.after ∙ c.as_bytes.ensures)
     (c.copy_from_slice-3.ensures.after ∙ c.to_be_bytes.ensures)
     (c.copy_from_slice-4.ensures.after ∙ c.to_be_bytes-2.ensures)

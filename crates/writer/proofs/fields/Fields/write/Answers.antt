@@ -20,7 +20,7 @@ returns-then-out-self-clause-law g c = written_law
 
 pub returns-clause-reads : goal.returns-clause-reads
 returns-clause-reads g c =
-    written_law g.H.Hash.numbered (said c.args.self.now)
+    written_law g.H.Hash.NUMBER (said c.args.self.now)
     (record { round_short = omega arith; calendar_short = omega arith; early = omega arith; covered = omega arith })
 
 pub returns-clause-law : goal.returns-clause-law
