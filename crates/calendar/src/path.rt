@@ -34,11 +34,9 @@ fn write_path<J: Joining, R: Row<Node = J::Node>>(
     requires room { (count ≡ length (second_shape publication second)) × (count ≤ length links.old) }
     ensures { links.new ≡ path_over (path J.Joining.joined (published publication (R.Row.row row.now)) second) links.old }
 {
-    // counted by hand: under `iter_mut().rev()` the proof of the loop does not see what `links` holds
-    let mut left = count;
-    for sibling in Siblings::new(publication as usize + 1, second as usize) {
-        left -= 1;
-        links[left] = link_to::<J, R>(row, sibling);
+    let siblings = Siblings::new(publication as usize + 1, second as usize);
+    for (at, sibling) in (0..count).rev().zip(siblings) {
+        links[at] = link_to::<J, R>(row, sibling);
     }
 }
 

@@ -1,13 +1,20 @@
 -- The siblings of a place: what they are in each part, and the shape and the path that they make.
-use Rattle.std.proofs.Common.{◌≡◌, subst, ℕ, zero, suc, ◌+◌, ◌-◌, ◌<◌, ◌≤◌, ltb, List, [], ◌∷◌, ◌++◌, map, reverse, length, take, drop, set, Some, sym, refl, ap, ◌∙◌, inl, inr, arith}
-use Rattle.std.proofs.lemmas.List.{append_assoc, length-map, length-set, length_push, length-reverse, reverse-append, take-take, drop-drop, drop-take}
+use Rattle.std.proofs.Common.{◌≡◌, subst, ℕ, zero, suc, ◌+◌, ◌-◌, ◌<◌, ◌≤◌, ltb, List, [], ◌∷◌, ◌++◌, map, reverse, length, take, drop, set, Option, Some, None, sym, refl, ap, ◌∙◌, inl, inr, arith}
+use Rattle.std.proofs.lemmas.List.{append_assoc, nil_from_length, length-map, length-set, length_push, length-reverse, reverse-append, take-take, drop-drop, drop-take}
 use Rattle.std.proofs.Math.Seq.{take-length}
 use Rattle.std.proofs.lemmas.Slice.{between_from_start}
 use Rattle.std.proofs.lemmas.List.Edits.{length-between}
 use Rattle.std.proofs.lemmas.Grind.{drop-set_at}
 use Rattle.std.proofs.lemmas.Bool.{cond-true, cond-false, lt-ltb, le-ltb, cases_lt}
 use Rattle.std.specs.List.{between}
+use Rattle.std.specs.Iterator.{YieldsFirst}
+use Rattle.std.specs.Iterator.Adapters.{zip_first, zip_second, zip_steps, rev_source, rev_steps}
+use Rattle.std.specs.Range.{range_steps_back}
+use Rattle.std.specs.declared.iter.Rev.{Rev}
+use Rattle.std.specs.declared.iter.Zip.{Zip}
+use Rattle.std.specs.declared.ops.Range.{Range}
 use Rattle.tree.specs.declared.descent.Sibling.{Sibling}
+use Rattle.tree.specs.declared.descent.Siblings.{Siblings}
 use Rattle.tree.specs.declared.link.Side.{Side}
 use Rattle.tree.specs.declared.link.Side.TheVariants.{Right, Left}
 use Rattle.tree.specs.declared.link.Link.{Link}
@@ -232,56 +239,82 @@ over_set items old x n e h =
     ∙ (ap (λ (j : ℕ). items ++ (x ∷ drop (j + 1) old)) e
     ∙ (sym (append_assoc items (x ∷ []) (drop (m + 1) old)) ∙ ap (λ (j : ℕ). (items ++ x ∷ []) ++ drop j old) (sym (length_push items x))))
 
--- what is made of a way's siblings goes before what is written: `left` of them are to come, and then the list is `final`
-pub record Writing {A D : Type 0} (f : D → Sibling → A) (n : ℕ) (way : List Sibling) (left : ℕ) (now final : List A) : Type 0 where
-  pub left_is : left ≡ length way
-  pub room : left ≤ length now
-  pub inside : Inside n way
-  pub same : (d : D) → over (upward (f d) way) now ≡ final
+-- what a loop goes through that writes a way: the places of its sides, from the last down to the first, beside its siblings
+abbrev pub Downward : Type 0
+Downward = Zip (Rev (Range ℕ)) Siblings
 
-module _ {A D : Type 0} {f : D → Sibling → A} {n left : ℕ} {way : List Sibling} {now final : List A}
-    (writing : Writing f n way left now final) (s : Sibling) (rest : List Sibling) (is : way ≡ s ∷ rest) where
-  pub writing_next : (1 ≤ left) × (s.low < s.end) × (s.end ≤ n)
+abbrev pub places_left : Downward → Range ℕ
+places_left z = rev_source (zip_first z)
+
+abbrev pub way_of : Siblings → List Sibling
+way_of w = siblings w.low w.end w.place
+
+abbrev pub Steps : Downward → Option (ℕ × Sibling) → Downward → Type 0
+Steps = zip_steps (rev_steps (range_steps_back (λ a b. b - a) (λ a b. b ≡ a + 1))) (YieldsFirst way_of)
+
+-- what is made of a way's siblings goes before what is written: each has a place to come, and then the list is `final`
+pub record Writing {A D : Type 0} (f : D → Sibling → A) (n : ℕ) (z : Downward) (now final : List A) : Type 0 where
+  pub start : (places_left z).start ≡ 0
+  pub counted : (places_left z).end ≡ length (way_of (zip_second z))
+  pub room : (places_left z).end ≤ length now
+  pub inside : Inside n (way_of (zip_second z))
+  pub same : (d : D) → over (upward (f d) (way_of (zip_second z))) now ≡ final
+
+module _ {A D : Type 0} {f : D → Sibling → A} {n : ℕ} {z : Downward} {now final : List A}
+    (writing : Writing f n z now final) (at : ℕ) (s : Sibling) (t : Downward) (step : Steps z (Some (at, s)) t) where
+  pub writing_next : (s.low < s.end) × (s.end ≤ n)
   unfolding Inside
   writing_next =
-      let first : Inside n (s ∷ rest) = subst (Inside n) is writing.inside in
-      (omega (arith, writing.left_is, ap length is), first.0, first.1)
+      let first : Inside n (s ∷ way_of (zip_second t)) = subst (Inside n) step.1 writing.inside in
+      (first.0, first.1)
 
-  pub writing_more : (x : A) → ((d : D) → x ≡ f d s) → Writing f n rest (left - 1) (set now (left - 1) x) final
+  pub writing_more : (x : A) → ((d : D) → x ≡ f d s) → Writing f n t (set now at x) final
   unfolding Inside
   writing_more x x_is =
-      let first : Inside n (s ∷ rest) = subst (Inside n) is writing.inside in
-      let size : left ≡ length rest + 1 = omega (arith, writing.left_is, ap length is) in
+      let rest = way_of (zip_second t) in
+      let first : Inside n (s ∷ rest) = subst (Inside n) step.1 writing.inside in
+      let size : (places_left z).end ≡ length rest + 1 = omega (arith, writing.counted, ap length step.1) in
+      let place = step.0.1 in
       record {
-        left_is = omega arith;
-        room = omega (arith, writing.room, length-set now (left - 1) x);
+        start = step.0.0 ∙ writing.start;
+        counted = omega (arith, place.2, size);
+        room = omega (arith, writing.room, place.2, length-set now at x);
         inside = first.2;
         same = λ d.
-            over_set (upward (f d) rest) now x (left - 1) (omega (arith, length-upward (f d) rest)) (omega (arith, writing.room))
+            over_set (upward (f d) rest) now x at (omega (arith, size, place.1, place.2, length-upward (f d) rest)) (omega (arith, writing.room, place.1, place.2))
             ∙ (ap (λ y. over (upward (f d) rest ++ y ∷ []) now) (x_is d)
             ∙ (ap (λ items. over items now) (sym (upward_more (f d) s rest))
-            ∙ (ap (λ w. over (upward (f d) w) now) (sym is) ∙ writing.same d)));
+            ∙ (ap (λ w. over (upward (f d) w) now) (sym step.1) ∙ writing.same d)));
       }
 
 pub length-siblings : (n i : ℕ) → length (siblings 0 n i) ≡ length (shape n i)
 length-siblings n i = sym (ap length (sides_is n i) ∙ length-upward (λ s. s.side) (siblings 0 n i))
 
 -- at the start nothing is written
-pub writing_none : {A D : Type 0} (f : D → Sibling → A) (n i : ℕ) (way : List Sibling) (left : ℕ) (old final : List A) → way ≡ siblings 0 n i
-    → left ≡ length (shape n i) → left ≤ length old → ((d : D) → over (upward (f d) (siblings 0 n i)) old ≡ final) → Writing f n way left old final
-writing_none f n i way left old final is counted room same =
+pub writing_none : {A D : Type 0} (f : D → Sibling → A) (n i : ℕ) {count : ℕ} {old final : List A} {z zipped : Downward} {places : Rev (Range ℕ)} {w : Siblings}
+    → z ≡ zipped → zip_first zipped ≡ places → rev_source places ≡ record { start = 0; end = count } → zip_second zipped ≡ w → way_of w ≡ siblings 0 n i
+    → count ≡ length (shape n i) → count ≤ length old → ((d : D) → over (upward (f d) (siblings 0 n i)) old ≡ final) → Writing f n z old final
+writing_none f n i {count} {old} {final} {z} same_zip first source second way counted room same =
+    let range : places_left z ≡ record { start = 0; end = count } = ap places_left same_zip ∙ (ap (λ r. rev_source r) first ∙ source) in
+    let is : way_of (zip_second z) ≡ siblings 0 n i = ap (λ y. way_of (zip_second y)) same_zip ∙ (ap way_of second ∙ way) in
     record {
-      left_is = counted ∙ sym (ap length is ∙ length-siblings n i);
-      room = room;
+      start = ap (λ r. r.start) range;
+      counted = ap (λ r. r.end) range ∙ (counted ∙ sym (ap length is ∙ length-siblings n i));
+      room = omega (arith, ap (λ r. r.end) range, room);
       inside = subst (Inside n) (sym is) (inside n n 0 n i (omega arith) (omega arith));
       same = λ d. ap (λ w. over (upward (f d) w) old) is ∙ same d;
     }
 
--- at the end everything is
-pub writing_all : {A D : Type 0} {f : D → Sibling → A} {n left : ℕ} {way : List Sibling} {now final : List A} → Writing f n way left now final → way ≡ []
+-- at the end everything is: where no place is left or no sibling, neither is
+pub writing_all : {A D : Type 0} {f : D → Sibling → A} {n : ℕ} {z : Downward} {now final : List A} → Writing f n z now final → Steps z None z
     → (ds : List D) → 1 ≤ length ds → now ≡ final
-writing_all writing is [] h = absurd (omega arith)
-writing_all {f = f} {now = now} writing is (d ∷ ds) h = ap (λ w. over (upward (f d) w) now) (sym is) ∙ writing.same d
+writing_all writing end [] h = absurd (omega arith)
+writing_all {f = f} {z = z} {now = now} writing end (d ∷ ds) h =
+    let is : way_of (zip_second z) ≡ [] = elim end [
+      | inl u ↦ nil_from_length _ (omega (arith, writing.start, writing.counted, u.1.1.0))
+      | inr u ↦ u.1.0
+    ] in
+    ap (λ w. over (upward (f d) w) now) (sym is) ∙ writing.same d
 
 pub path_upward : {N : Type 0} (join : N → N → N) (xs : List N) (i : ℕ) (d : N) → i < length xs
     → path join xs i ≡ Some (upward (link_over join xs d) (siblings 0 (length xs) i))

@@ -50,11 +50,8 @@ fn write_path<J: Joining>(
     requires room { (count ≡ length (shape (length nodes.now) place)) × (count ≤ length links.old) }
     ensures { links.new ≡ path_over (path J.Joining.joined nodes.now place) links.old }
 {
-    // counted by hand: under `iter_mut().rev()` the proof of the loop does not see what `links` holds
-    let mut left = count;
-    for sibling in Siblings::new(nodes.len(), place) {
-        left -= 1;
-        links[left] = link_to::<J>(nodes, sibling);
+    for (at, sibling) in (0..count).rev().zip(Siblings::new(nodes.len(), place)) {
+        links[at] = link_to::<J>(nodes, sibling);
     }
 }
 

@@ -21,11 +21,8 @@ fn write_shape(n: usize, place: usize, out: &mut [Side]) -> usize
     ensures sides { out.new ≡ over (shape n place) out.old }
 {
     let count = sides_of(n, place);
-    // counted by hand: under `iter_mut().rev()` the proof of the loop does not see what `out` holds
-    let mut left = count;
-    for sibling in Siblings::new(n, place) {
-        left -= 1;
-        out[left] = sibling.side;
+    for (at, sibling) in (0..count).rev().zip(Siblings::new(n, place)) {
+        out[at] = sibling.side;
     }
     count
 }
