@@ -14,7 +14,7 @@ returns g c =
     let p = c.args.self.now in
     let second : ℕ = c.seconds-second.result in
     let w = g.K.Kind.lowering p.kind digested second in
-    let laws = c.lawful.ensures.lowers p.kind digested second in
+    let laws = p.lowers digested second in
     let items : List Digest = c.args.list.now in
     let m : Meaning = g.P.Pile.meaning p.below in
     let before = g.K.Kind.lowering p.kind digested p.second in
@@ -33,7 +33,7 @@ returns g c =
       after =
           kept
           ∙ (ap (layered_meaning w items) below
-          ∙ (layered_after laws (c.lawful.ensures.lowers p.kind digested p.second) m items (seal (w.lowered items)) p.list.items
+          ∙ (layered_after laws (p.lowers digested p.second) m items (seal (w.lowered items)) p.list.items
           ∙ ap
           (λ s.
           let v = g.K.Kind.lowering p.kind digested s in
@@ -50,8 +50,8 @@ returns-in_err-commit g c =
     let p = c.args.self.now in
     let second : ℕ = c.seconds-second.result in
     let w = g.K.Kind.lowering p.kind digested second in
-    let laws = c.lawful.ensures.lowers p.kind digested second in
-    let earlier = c.lawful.ensures.lowers p.kind digested p.second in
+    let laws = p.lowers digested second in
+    let earlier = p.lowers digested p.second in
     let m : Meaning = g.P.Pile.meaning p.below in
     let down : List Digest = c.deref.result.now in
     let same : c.in_ok-list.list.items ≡ items = search rules in

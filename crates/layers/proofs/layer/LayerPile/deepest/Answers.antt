@@ -10,7 +10,7 @@ returns g c =
     let p = c.args.self.now in
     let w = g.K.Kind.lowering p.kind digested p.second in
     let m : Meaning = g.P.Pile.meaning p.below in
-    let laws = c.lawful.ensures.lowers p.kind digested p.second in
+    let laws = p.lowers digested p.second in
     record {
       short = layered_short laws (layered_round w p.list.items m.round) m.ways m.deepest c.deepest.ensures.short;
       value = omega (arith, c.deepest.ensures.value, laws.linked, c.LINKS.ensures);

@@ -7,5 +7,5 @@ returns g c =
     let digested = g.P.Digester.Hash.digested in
     let p = c.args.self.now in
     let m : Meaning = g.P.Pile.meaning p.below in
-    let laws = c.lawful.ensures.lowers p.kind digested p.second in
-    grind (arith, laws.covers m.most, c.lawful.ensures.wide)
+    let laws = p.lowers digested p.second in
+    grind (arith, laws.covers m.most, g.met.K.Kind.wide)
