@@ -76,7 +76,8 @@ impl Kind for Groups {
 
     fn lower<H: Hash>(&self, _second: u32, list: &Items) -> Items {
         let mut roots = Items::new();
-        for part in list.chunks(8) {
+        // a loop, since `collect` and `extend` of an ArrayVec answer a Result, and this can't fail
+        for part in list.chunks(Self::WIDTH) {
             roots.push(group_root::<H>(part));
         }
         roots

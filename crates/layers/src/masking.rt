@@ -45,6 +45,7 @@ impl Kind for Masks {
 
     fn lower<H: Hash>(&self, second: u32, list: &Items) -> Items {
         let mut hidden = Items::new();
+        // a loop, since `collect` and `extend` of an ArrayVec answer a Result, and this can't fail
         for (place, item) in list.iter().enumerate() {
             let over = mask::<H>(&self.seed, second, place as u16);
             hidden.push(node::<H, ROUND>(&over, item));
