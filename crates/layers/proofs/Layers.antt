@@ -73,8 +73,9 @@ module _ {width links : ℕ} {digested : List ℕ → Digest} {w : Lowering} (la
       take_all (w.covered (length round)) items ((laws.filled items (length round)).0 (omega (arith, ap length e)))
 
   -- what goes down is not too long below
-  pub lowered_fits : (m : Meaning) (items : List Digest) → length items ≤ min 256 (w.covered m.most) → length (w.lowered items) ≤ m.most
-  lowered_fits m items h = (laws.filled items m.most).1 (omega arith)
+  pub lowered_fits : {before : Lowering} (earlier : Lowers width links digested before) (m : Meaning) (items : List Digest)
+      → length items ≤ min 256 (before.covered m.most) → length (w.lowered items) ≤ m.most
+  lowered_fits earlier m items h = (laws.filled items m.most).1 (omega (arith, laws.covers m.most, earlier.covers m.most))
 
   pub layered_after : {before : Lowering} (earlier : Lowers width links digested before) (m : Meaning) (items : List Digest) (sealed : Sealed) (stored : List Digest)
       → layered_meaning w items (committed m (w.lowered items) sealed (Ok tt))

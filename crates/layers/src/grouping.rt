@@ -5,6 +5,7 @@ ghost use Rattle.digest.specs.declared.value.Digest.{Digest};
 ghost use Rattle.layers.specs.Table.{NineTable};
 ghost use Rattle.layers.specs.Layered.{front_answer};
 ghost use Rattle.layers.specs.Grouping.{group, group_root, group_roots, grouping, grouping_meaning, grouping_seal, grouping_fresh};
+ghost use Rattle.std.proofs.Common.{rules};
 
 use crate::kind::{Front, Items, Kind};
 use crate::layer::Layer;
@@ -19,6 +20,7 @@ pub type Grouping<P> = Layer<P, Groups>;
 
 impl<P: Pile> Layer<P, Groups> {
     // A grouping over a pile, which has stored no list yet.
+    #[tactic(auto, using(crate::proofs::Nine::nine_table))]
     pub fn over(below: P) -> Grouping<P>
         ensures pile { result.below ≡ below }
         ensures meaning { grouping_meaning P.Digester.Hash.digested result.list.items (P.Pile.meaning result.below) ≡ grouping_fresh (P.Pile.meaning below) }
@@ -26,12 +28,7 @@ impl<P: Pile> Layer<P, Groups> {
         ensures seals { (p : _) (items : List Digest) → ⟦<Layer<P, Groups> as Pile>⟧.seal p items ≡ grouping_seal P.Digester.Hash.digested items (P.Pile.seal p.below (group_roots P.Digester.Hash.digested items)) }
         ensures table { NineTable }
     {
-        Layer {
-            below,
-            kind: Groups,
-            second: 0,
-            list: Items::new(),
-        }
+        Layer::fresh(below, Groups)
     }
 }
 
@@ -75,11 +72,12 @@ impl Kind for Groups {
 
     ghost lowering = { λ kind digested second. grouping digested };
 
-    fn lawful() {}
+    ghost wide = { Prim.search rules };
 
     fn lower<H: Hash>(&self, _second: u32, list: &Items) -> Items {
         let mut roots = Items::new();
-        for part in list.chunks(8) {
+        // a loop, since `collect` and `extend` of an ArrayVec answer a Result, and this can't fail
+        for part in list.chunks(Self::WIDTH) {
             roots.push(group_root::<H>(part));
         }
         roots

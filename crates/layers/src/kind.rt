@@ -2,7 +2,7 @@
 ghost use Rattle.std.specs.Prelude.{◌≡◌, ℕ, ◌≤◌, List};
 ghost use Rattle.std.specs.Option.{option_map};
 ghost use Rattle.digest.specs.declared.value.Digest.{Digest};
-ghost use Rattle.layers.specs.Layered.{Lowering, Lowers, front_answer};
+ghost use Rattle.layers.specs.Layered.{Lowering, front_answer};
 
 use arrayvec::ArrayVec;
 use digest::{Digest, Hash};
@@ -36,8 +36,6 @@ pub trait Kind {
     fn front<H: Hash>(&self, second: u32, list: &Items, place: usize) -> Option<Front>
         ensures { option_map (λ v. v.items) result ≡ front_answer (lowering self.now H.Hash.digested second) list.now.items place };
 
-    // What holds of each kind, whatever the hash and the second.
-    fn lawful()
-        ensures wide { 1 ≤ WIDTH }
-        ensures lowers { (kind : Self) (digested : List ℕ → Digest) (second : ℕ) → Lowers WIDTH LINKS digested (lowering kind digested second) };
+    // a place takes some item
+    ghost wide: { 1 ≤ WIDTH };
 }

@@ -1,6 +1,7 @@
 // A layer over a pile, of any kind: it keeps the list of the last round, at most 256 digests, and sends down what its kind makes of it.
-ghost use Rattle.std.specs.Prelude.{◌≡◌, length};
-ghost use Rattle.layers.specs.Layered.{layered_meaning, layered_seal};
+ghost use Rattle.std.specs.Prelude.{◌≡◌, ℕ, List, [], length};
+ghost use Rattle.digest.specs.declared.value.Digest.{Digest};
+ghost use Rattle.layers.specs.Layered.{Lowers, layered_meaning, layered_seal};
 
 use crate::behind::behind;
 use crate::kind::{Items, Kind};
@@ -9,11 +10,30 @@ use pile::{CommitRefusal, Pile, WayRefusal};
 use tree::Link;
 
 #[derive(Drop)]
-pub struct Layer<P, K> {
+pub struct Layer<P, K: Kind> {
     pub(crate) below: P,
     pub(crate) kind: K,
     pub(crate) second: u32,
     pub(crate) list: Items,
+    // what holds of how the kind takes a list down, whatever the hash and the second
+    ghost lowers: { (digested : List ℕ → Digest) (second : ℕ) → Lowers K.WIDTH K.LINKS digested (K.lowering kind digested second) },
+}
+
+impl<P, K: Kind> Layer<P, K> {
+    // A layer over a pile, which has stored no list yet.
+    pub(crate) fn fresh(below: P, kind: K) -> Layer<P, K>
+        requires lowers { (digested : List ℕ → Digest) (second : ℕ) → Lowers K.WIDTH K.LINKS digested (K.lowering kind digested second) }
+        ensures pile { result.below ≡ below }
+        ensures kind { result.kind ≡ kind }
+        ensures empty { result.list.items ≡ [] }
+    {
+        Layer {
+            below,
+            kind,
+            second: 0,
+            list: Items::new(),
+        }
+    }
 }
 
 impl<P: Pile, K: Kind> Pile for Layer<P, K> {
@@ -26,7 +46,6 @@ impl<P: Pile, K: Kind> Pile for Layer<P, K> {
         layered_seal w items (P.Pile.seal p.below (w.lowered items)) };
 
     fn commit(&mut self, list: &[Digest]) -> Result<(), CommitRefusal> {
-        K::lawful();
         let list = Items::try_from(list).map_err(|_| CommitRefusal::TooMany)?;
         if list.len() > self.most() {
             return Err(CommitRefusal::TooMany);
@@ -51,7 +70,6 @@ impl<P: Pile, K: Kind> Pile for Layer<P, K> {
     }
 
     fn way_length(&self, place: usize) -> Option<u8> {
-        K::lawful();
         let front = self
             .kind
             .front::<P::Digester>(self.second, &self.list, place)?;
@@ -60,7 +78,6 @@ impl<P: Pile, K: Kind> Pile for Layer<P, K> {
     }
 
     fn way(&self, place: usize, links: &mut [Link<Digest>]) -> Result<usize, WayRefusal> {
-        K::lawful();
         let front = self
             .kind
             .front::<P::Digester>(self.second, &self.list, place)
@@ -69,7 +86,6 @@ impl<P: Pile, K: Kind> Pile for Layer<P, K> {
     }
 
     fn most(&self) -> usize {
-        K::lawful();
         self.below.most().saturating_mul(K::WIDTH).min(256)
     }
 
@@ -78,7 +94,6 @@ impl<P: Pile, K: Kind> Pile for Layer<P, K> {
     }
 
     fn deepest(&self) -> u8 {
-        K::lawful();
         self.below.deepest().saturating_add(K::LINKS)
     }
 }

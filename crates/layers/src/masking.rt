@@ -2,6 +2,7 @@
 ghost use Rattle.std.specs.Prelude.{◌≡◌, List, length};
 ghost use Rattle.digest.specs.declared.value.Digest.{Digest};
 ghost use Rattle.layers.specs.Masking.{masked, masking, masking_meaning, masking_seal, masking_fresh};
+ghost use Rattle.std.proofs.Common.{rules};
 
 use crate::kind::{Front, Items, Kind};
 use crate::layer::Layer;
@@ -25,12 +26,7 @@ impl<P: Pile> Layer<P, Masks> {
         ensures means { (p : _) → ⟦<Layer<P, Masks> as Pile>⟧.meaning p ≡ masking_meaning P.Digester.Hash.digested p.kind.seed p.second p.list.items (P.Pile.meaning p.below) }
         ensures seals { (p : _) (items : List Digest) → ⟦<Layer<P, Masks> as Pile>⟧.seal p items ≡ masking_seal P.Digester.Hash.digested p.kind.seed (length (P.Pile.meaning p.below).row) items (P.Pile.seal p.below (masked P.Digester.Hash.digested p.kind.seed (length (P.Pile.meaning p.below).row) items)) }
     {
-        Layer {
-            below,
-            kind: Masks { seed },
-            second: 0,
-            list: Items::new(),
-        }
+        Layer::fresh(below, Masks { seed })
     }
 }
 
@@ -45,10 +41,11 @@ impl Kind for Masks {
 
     ghost lowering = { λ kind digested second. masking digested kind.seed second };
 
-    fn lawful() {}
+    ghost wide = { Prim.search rules };
 
     fn lower<H: Hash>(&self, second: u32, list: &Items) -> Items {
         let mut hidden = Items::new();
+        // a loop, since `collect` and `extend` of an ArrayVec answer a Result, and this can't fail
         for (place, item) in list.iter().enumerate() {
             let over = mask::<H>(&self.seed, second, place as u16);
             hidden.push(node::<H, ROUND>(&over, item));

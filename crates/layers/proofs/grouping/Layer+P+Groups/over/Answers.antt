@@ -1,5 +1,5 @@
-use Rattle.layers.proofs.Nine.{nine_table}
+use Rattle.layers.proofs.Eights.{grouping_lowers}
 use Rattle.layers.proofs.grouping.Layer+P+Groups.over.Goals as goal
 
-pub returns-clause-table : goal.returns-clause-table
-returns-clause-table g c = nine_table
+pub fresh-requires : goal.fresh-requires
+fresh-requires g c = record { lowers = λ digested second. grouping_lowers digested }

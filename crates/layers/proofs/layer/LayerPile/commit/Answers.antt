@@ -14,7 +14,7 @@ returns g c =
     let p = c.args.self.now in
     let second : ℕ = c.seconds-second.result in
     let w = g.K.Kind.lowering p.kind digested second in
-    let laws = c.lawful.ensures.lowers p.kind digested second in
+    let laws = p.lowers digested second in
     let items : List Digest = c.args.list.now in
     let m : Meaning = g.P.Pile.meaning p.below in
     let before = g.K.Kind.lowering p.kind digested p.second in
@@ -33,7 +33,7 @@ returns g c =
       after =
           kept
           ∙ (ap (layered_meaning w items) below
-          ∙ (layered_after laws (c.lawful.ensures.lowers p.kind digested p.second) m items (seal (w.lowered items)) p.list.items
+          ∙ (layered_after laws (p.lowers digested p.second) m items (seal (w.lowered items)) p.list.items
           ∙ ap
           (λ s.
           let v = g.K.Kind.lowering p.kind digested s in
@@ -45,17 +45,10 @@ returns g c =
 
 pub returns-in_err-commit : goal.returns-in_err-commit
 returns-in_err-commit g c =
-    let digested = g.P.Digester.Hash.digested in
-    let items : List Digest = c.args.list.now in
     let p = c.args.self.now in
-    let second : ℕ = c.seconds-second.result in
-    let w = g.K.Kind.lowering p.kind digested second in
-    let laws = c.lawful.ensures.lowers p.kind digested second in
-    let earlier = c.lawful.ensures.lowers p.kind digested p.second in
     let m : Meaning = g.P.Pile.meaning p.below in
-    let down : List Digest = c.deref.result.now in
-    let same : c.in_ok-list.list.items ≡ items = search rules in
-    let lower : down ≡ w.lowered items = c.deref.ensures.0 ∙ (c.lower-lowered.ensures ∙ ap w.lowered same) in
-    let fits = lowered_fits laws m items (omega (arith, ap length same, laws.covers m.most, earlier.covers m.most)) in
-    let ok = served m down (omega (arith, ap length lower)) (omega arith) in
+    let laws = p.lowers g.P.Digester.Hash.digested in
+    let kept : List Digest = c.in_ok-list.list.items in
+    let fits = lowered_fits (laws c.seconds-second.result) (laws p.second) m kept (omega arith) in
+    let ok = served m c.deref.result.now (omega (arith, ap length (c.deref.ensures.0 ∙ c.lower-lowered.ensures))) (omega arith) in
     no_refusal c.commit.result _ (c.commit.ensures.outcome ∙ ok) c.in_err-commit.was
