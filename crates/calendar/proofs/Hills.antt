@@ -1,7 +1,8 @@
 -- Trees that stand side by side, taken apart and joined.
-use Rattle.std.proofs.Common.{◌≡◌, reverse, ℕ, zero, suc, ◌+◌, ◌-◌, ◌*◌, ◌/◌, ◌%◌, ◌^◌, ◌<◌, ◌≤◌, List, [], ◌∷◌, ◌++◌, length, get_or, take, set, Some, sym, refl, ap, ◌∙◌, subst, inl, inr, arith, pow_pos}
-use Rattle.std.proofs.lemmas.List.{append_assoc, reverse-append, length-append, length_push, length-take-le, take_at, drop_at, take_more, take_more_set, same_from_push}
-use Rattle.std.proofs.lemmas.Bool.{cases_lt}
+use Rattle.std.proofs.Common.{◌≡◌, reverse, ℕ, zero, suc, ◌+◌, ◌-◌, ◌*◌, ◌/◌, ◌%◌, ◌^◌, ◌<◌, ◌≤◌, List, [], ◌∷◌, ◌++◌, length, get_or, take, drop, w32, set, Some, sym, refl, ap, ◌∙◌, subst, arith, pow_pos}
+use Rattle.std.proofs.lemmas.List.{append_assoc, append-nil, reverse-append, length-append, length_push, length-take-le, take-take, take_at, drop_at, take_more, take_more_set}
+use Rattle.std.proofs.lemmas.Nat.Bits.{bit_at_lowest, bit_at-suc, bit_at-trailing_ones}
+use Rattle.std.specs.Int.{bit_at, trailing_ones}
 use Rattle.std.specs.List.{fold, reduce}
 use Rattle.tree.specs.Split.{Splits, split}
 use Rattle.tree.specs.Trees.{root}
@@ -38,16 +39,13 @@ pub record Last {N : Type 0} (join : N → N → N) (h c : ℕ) (peaks nodes : L
   pub peaks_are : peaks ≡ before ++ peak ∷ []
   pub nodes_are : nodes ≡ early ++ late
 
--- while a node is fed: trees, and behind them one tree that is still to be joined or put down
-pub record Carried {N : Type 0} (join : N → N → N) (peaks : List N) (count top rest : ℕ) (peak : N) (nodes : List N) : Type 0 where
-  pub height : ℕ
-  pub early : List N
-  pub late : List N
-  pub within : top ≤ length peaks
-  pub stands : Stands join height rest (take top peaks) early
-  pub perfect : Perfect join height late peak
-  pub nodes_are : nodes ≡ early ++ late
-  pub closes : (qs : List N) → Stands join height (rest + 1) qs nodes → Stands join 0 (count + 1) qs nodes
+-- a perfect tree put down behind the others: it is joined with the last `joins` of them, and is then the last
+pub record Fed {N : Type 0} (join : N → N → N) (h n joins : ℕ) (peaks nodes : List N) (y : N) : Type 0 where
+  pub front : List N
+  pub back : List N
+  pub peaks_are : peaks ≡ front ++ back
+  pub joined : length back ≡ joins
+  pub stands : Stands join h (n + 1) (front ++ fold (λ peak last. join last peak) y (reverse back) ∷ []) nodes
 
 module _ {N : Type 0} (join : N → N → N) where
   -- a perfect tree and at most as many nodes behind it
@@ -105,65 +103,83 @@ module _ {N : Type 0} (join : N → N → N) where
   few (odd c before early late y is above perfect p q) (suc k) b =
       omega (arith, few above k (omega (arith, twice k)), ap length p, length_push before y)
 
-  module _ (forest : Forest N) (nodes : List N) (holds : Holds join forest nodes) where
-    pub carry_none : (x : N) → Carried join forest.peaks forest.count forest.top forest.count x (nodes ++ x ∷ [])
-    carry_none x =
-        record {
-          height = 0;
-          early = nodes;
-          late = x ∷ [];
-          within = omega (arith, holds.0, holds.1);
-          stands = holds.3;
-          perfect = (refl, root_one join (x ∷ []) x refl);
-          nodes_are = refl;
-          closes = λ qs s. s;
-        }
-
-    -- below 2 ^ 31 nodes leave room for one more tree
-    pub room : forest.count < 2 ^ 31 → forest.top < 32
-    room below =
-        omega (arith, few holds.3 31 below, length-take-le forest.top forest.peaks (omega (arith, holds.0, holds.1)), holds.1)
-
-  -- what was carried is joined with the last tree
-  module _ {peaks : List N} {count top rest : ℕ} {peak : N} {nodes : List N} (carried : Carried join peaks count top rest peak nodes) where
-    pub carry_some : rest % 2 ≡ 1 → 1 ≤ top
-    carry_some digit =
-        let l = odd_part carried.stands (rest / 2) (omega arith) in
-        elim (cases_lt 0 top) [
-          | inl h ↦ h
-          | inr none ↦
-              let no : top ≡ 0 = omega arith in
-              absurd (nothing_pushed l.before l.peak (ap (λ m. take m peaks) (sym no) ∙ l.peaks_are))
-        ]
-
-    pub carry_more : rest % 2 ≡ 1 → (d : N) → Carried join peaks count (top - 1) (rest / 2) (join (get_or peaks (top - 1) d) peak) nodes
-    carry_more digit d =
-        let h : ℕ = carried.height in
-        let l = odd_part carried.stands (rest / 2) (omega arith) in
-        let last = front_last peaks top d (carry_some digit) carried.within in
-        let same = same_from_push l.before (take (top - 1) peaks) l.peak (get_or peaks (top - 1) d) (sym l.peaks_are ∙ last) in
-        record {
-          height = suc h;
-          early = l.early;
-          late = l.late ++ carried.late;
-          within = omega (arith, carried.within);
-          stands = subst (λ ps. Stands join (suc h) (rest / 2) ps l.early) same.0 l.stands;
-          perfect =
-              subst (λ z. Perfect join (suc h) (l.late ++ carried.late) (join z peak)) same.1
-              (perfect_joined h l.late carried.late l.peak peak l.perfect carried.perfect);
-          nodes_are = carried.nodes_are ∙ (ap (λ ys. ys ++ carried.late) l.nodes_are ∙ append_assoc l.early l.late carried.late);
-          closes = λ qs s. carried.closes qs (even (rest / 2 + 1) (omega arith) s);
-        }
-
-    -- no tree of its height: it is put down
-    pub carry_all : rest % 2 ≡ 0 → top < length peaks → Stands join 0 (count + 1) (take (top + 1) (set peaks top peak)) nodes
-    carry_all digit room =
-        let above = even_part carried.stands (rest / 2) (omega arith) in
-        carried.closes (take (top + 1) (set peaks top peak))
-        (odd (rest / 2) (take top peaks) carried.early carried.late peak (omega arith) above carried.perfect (take_more_set peaks top peak room) carried.nodes_are)
-
   reverse_push : (xs : List N) (x : N) → reverse (xs ++ x ∷ []) ≡ x ∷ reverse xs
   reverse_push xs x = reverse-append xs (x ∷ [])
+
+  -- the number's lowest digits are `joins` ones and a zero
+  pub fed : (joins h n : ℕ) {peaks nodes : List N} → Stands join h n peaks nodes → (late : List N) (y : N) → Perfect join h late y
+      → bit_at n joins ≡ 0 → ((i : ℕ) → i < joins → bit_at n i ≡ 1) → Fed join h n joins peaks (nodes ++ late) y
+  fed zero h n {peaks} {nodes} stands late y perfect none ones =
+      let even_digit : n % 2 ≡ 0 = sym (bit_at_lowest n) ∙ none in
+      let above = even_part stands (n / 2) (omega arith) in
+      record {
+        front = peaks;
+        back = [];
+        peaks_are = sym (append-nil peaks);
+        joined = refl;
+        stands = odd (n / 2) peaks nodes late y (omega arith) above perfect refl refl;
+      }
+  fed (suc joins) h n {peaks} {nodes} stands late y perfect none ones =
+      let odd_digit : n % 2 ≡ 1 = sym (bit_at_lowest n) ∙ ones 0 (omega arith) in
+      let l = odd_part stands (n / 2) (omega arith) in
+      let more =
+      fed joins (suc h) (n / 2) l.stands (l.late ++ late) (join l.peak y) (perfect_joined h l.late late l.peak y l.perfect perfect)
+      (sym (bit_at-suc n joins) ∙ none) (λ i below. sym (bit_at-suc n i) ∙ ones (suc i) (omega (arith, below))) in
+      let nodes_are : l.early ++ (l.late ++ late) ≡ nodes ++ late = sym (ap (λ ys. ys ++ late) l.nodes_are ∙ append_assoc l.early l.late late) in
+      let peak_is : fold (λ peak last. join last peak) (join l.peak y) (reverse more.back) ≡ fold (λ peak last. join last peak) y (reverse (more.back ++ l.peak ∷ [])) =
+      ap (fold (λ peak last. join last peak) y) (sym (reverse_push more.back l.peak)) in
+      record {
+        front = more.front;
+        back = more.back ++ l.peak ∷ [];
+        peaks_are = l.peaks_are ∙ (ap (λ ps. ps ++ l.peak ∷ []) more.peaks_are ∙ append_assoc more.front more.back (l.peak ∷ []));
+        joined = omega (arith, more.joined, length_push more.back l.peak);
+        stands =
+            even (n / 2 + 1) (omega arith)
+            (subst (λ z. Stands join (suc h) (n / 2 + 1) (more.front ++ z ∷ []) (nodes ++ late)) peak_is
+            (subst (λ ns. Stands join (suc h) (n / 2 + 1) (more.front ++ fold (λ peak last. join last peak) (join l.peak y) (reverse more.back) ∷ []) ns) nodes_are more.stands));
+      }
+
+  module _ (forest : Forest N) (nodes : List N) (holds : Holds join forest nodes) where
+    module _ (below : forest.count < 2 ^ 31) (x : N) where
+      last_joined : Fed join 0 forest.count (trailing_ones w32 forest.count) (take forest.top forest.peaks) (nodes ++ x ∷ []) x
+      last_joined =
+          let digits = bit_at-trailing_ones w32 forest.count (omega arith) in
+          fed (trailing_ones w32 forest.count) 0 forest.count holds.3 (x ∷ []) x (refl, root_one join (x ∷ []) x refl) digits.1 digits.2
+
+      -- one tree for each of these ones, and the others
+      kept_many : length last_joined.front + trailing_ones w32 forest.count ≡ forest.top
+      kept_many =
+          omega (
+            arith,
+            length-append last_joined.front last_joined.back,
+            last_joined.joined,
+            ap length last_joined.peaks_are,
+            length-take-le forest.top forest.peaks (omega (arith, holds.0, holds.1)),
+          )
+
+      pub enough : trailing_ones w32 forest.count ≤ forest.top
+      enough = omega (arith, kept_many)
+
+      -- below 2 ^ 31 nodes leave room for one more tree
+      pub room : forest.top < 32
+      room =
+          omega (arith, few holds.3 31 below, length-take-le forest.top forest.peaks (omega (arith, holds.0, holds.1)), holds.1)
+
+      pub fed_stands : (kept : ℕ) (y : N) → kept ≡ forest.top - trailing_ones w32 forest.count
+          → y ≡ fold (λ peak last. join last peak) x (reverse (drop kept (take forest.top forest.peaks)))
+          → Stands join 0 (forest.count + 1) (take (kept + 1) (set forest.peaks kept y)) (nodes ++ x ∷ [])
+      fed_stands kept y kept_is y_is =
+          let size : length last_joined.front ≡ kept = omega (arith, kept_many, kept_is) in
+          let front : take kept forest.peaks ≡ last_joined.front =
+          sym (take-take kept forest.top forest.peaks (omega (arith, kept_is))) ∙ (ap (take kept) last_joined.peaks_are ∙ take_at last_joined.front last_joined.back kept size) in
+          let back : drop kept (take forest.top forest.peaks) ≡ last_joined.back =
+          ap (drop kept) last_joined.peaks_are ∙ drop_at last_joined.front last_joined.back kept size in
+          let y_same : fold (λ peak last. join last peak) x (reverse last_joined.back) ≡ y =
+          sym (y_is ∙ ap (λ ps. fold (λ peak last. join last peak) x (reverse ps)) back) in
+          let peaks_same : last_joined.front ++ y ∷ [] ≡ take (kept + 1) (set forest.peaks kept y) =
+          sym (take_more_set forest.peaks kept y (omega (arith, room, kept_is, holds.0)) ∙ ap (λ ps. ps ++ y ∷ []) front) in
+          subst (λ ps. Stands join 0 (forest.count + 1) ps (nodes ++ x ∷ [])) peaks_same
+          (subst (λ z. Stands join 0 (forest.count + 1) (last_joined.front ++ z ∷ []) (nodes ++ x ∷ [])) y_same last_joined.stands)
 
   -- the trees, and behind them the root of other nodes, no more than the last tree has
   joined_behind : {h n : ℕ} {peaks nodes : List N} → Stands join h n peaks nodes → (late : List N) (y : N) → 1 ≤ length late → length late ≤ 2 ^ h

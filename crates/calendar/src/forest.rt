@@ -1,13 +1,13 @@
 // A forest: perfect trees side by side over the nodes fed so far, the tallest and earliest first.
 ghost use Rattle.std.specs.Prelude.{◌≡◌, ◌^◌, ◌<◌, List, [], ◌∷◌, ◌++◌, reverse};
 ghost use Rattle.calendar.specs.Forests.{Holds, Sound};
-ghost use Rattle.std.specs.List.{reduce};
+ghost use Rattle.std.specs.List.{fold, reduce};
 ghost use Rattle.tree.specs.Trees.{root};
 
 use tree::Joining;
 
 // The roots of the trees at the front of `peaks`, `top` of them, and how many nodes were fed.
-// No `ArrayVec`: it asks `Default` of what it keeps, which the nodes of a row need not have.
+// No `ArrayVec`: its `new`, `pop` and `truncate` ask `Default` of what it keeps, and `Small` may not ask it of a caller's nodes.
 #[derive(Drop)]
 pub(crate) struct Forest<N> {
     peaks: [N; 32],
@@ -26,6 +26,17 @@ fn joined_back<J: Joining>(peaks: &[J::Node]) -> Option<J::Node>
         .reduce(|peak, before| J::join(&before, &peak))
 }
 
+// A node joined with the last of these, that with the one before it, and so on.
+fn joined_onto<J: Joining>(peaks: &[J::Node], node: J::Node) -> J::Node
+    ensures { result ≡ fold (λ peak before. J.Joining.joined before peak) node (reverse peaks.now) }
+{
+    peaks
+        .iter()
+        .rev()
+        .copied()
+        .fold(node, |peak, before| J::join(&before, &peak))
+}
+
 impl<N: Copy> Forest<N> {
     // The forest of one node.
     pub(crate) fn planted<J: Joining<Node = N>>(first: N) -> Forest<N>
@@ -38,22 +49,16 @@ impl<N: Copy> Forest<N> {
         }
     }
 
-    // One more node: joined with the last tree as long as both are equally tall.
+    // One more node, joined with the last trees as long as they are as tall: as many as the count's last digits are ones.
     pub(crate) fn feed<J: Joining<Node = N>>(&mut self, node: N)
         requires sound { Sound J.Joining.joined self.old }
         requires room { self.old.count < 2 ^ 31 }
         ensures { (xs : List N) → Holds J.Joining.joined self.old xs → Holds J.Joining.joined self.new (xs ++ node ∷ []) }
     {
-        let mut top = self.top;
-        let mut rest = self.count;
-        let mut peak = node;
-        while rest % 2 == 1 {
-            top -= 1;
-            peak = J::join(&self.peaks[top], &peak);
-            rest /= 2;
-        }
-        self.peaks[top] = peak;
-        self.top = top + 1;
+        let kept = self.top - self.count.trailing_ones() as usize;
+        let standing = &self.peaks[..self.top];
+        self.peaks[kept] = joined_onto::<J>(&standing[kept..], node);
+        self.top = kept + 1;
         self.count += 1;
     }
 
