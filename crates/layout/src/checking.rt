@@ -16,7 +16,9 @@ fn bad_side(links: &[[u8; 33]]) -> Option<usize>
     requires { length links.now ≤ 95 }
     ensures { result ≡ bad_side 48 links.now }
 {
-    let place = links.iter().position(|link| Side::try_from(link[0]).is_err())?;
+    let place = links
+        .iter()
+        .position(|link| Side::try_from(link[0]).is_err())?;
     Some(HEAD + LINK * place)
 }
 
