@@ -12,7 +12,7 @@ use wire::number_at;
 const VERSION: u16 = 1;
 
 // The place of the first number that names no side.
-fn bad_side(links: &[[u8; 33]]) -> Option<usize>
+fn bad_side(links: &[[u8; LINK]]) -> Option<usize>
     requires { length links.now ≤ 95 }
     ensures { result ≡ bad_side 48 links.now }
 {
@@ -61,7 +61,7 @@ pub fn check<H: Hash>(bytes: &[u8]) -> Result<(), Fault>
     ensures longest { LongestLaw }
 {
     head::<H>(bytes)?;
-    let (links, _) = bytes[HEAD..].as_chunks::<33>();
+    let (links, _) = bytes[HEAD..].as_chunks::<LINK>();
     if let Some(place) = bad_side(links) {
         return Err(Fault::Side(place));
     }
