@@ -1,5 +1,5 @@
 -- What holds of bytes without a fault.
-use Rattle.std.proofs.Common.{◌≡◌, ℕ, ◌^◌, ◌<◌, ◌≤◌, true, List, ◌∷◌, length, get_or, Some, None, Option, refl, arith}
+use Rattle.std.proofs.Common.{◌≡◌, ℕ, ◌^◌, ◌<◌, ◌≤◌, true, List, ◌∷◌, get_or, Some, None, Option, sym, refl, ◌∙◌, arith}
 use Rattle.std.specs.Option.{option_map}
 use Rattle.std.proofs.lemmas.Bool.{not-false, eqb-true, ltb-false, leb-false}
 use Rattle.wire.specs.Bytes.{pair_at, number_at}
@@ -7,17 +7,14 @@ use Rattle.wire.specs.Faults.{first}
 use Rattle.wire.proofs.Firsts.{none_held}
 use Rattle.layout.specs.declared.fault.Fault.{Fault}
 use Rattle.layout.specs.declared.fault.Fault.TheVariants.{Side}
-use Rattle.layout.specs.Faults.{marked, length_told, bad_side, token_fault}
-use Rattle.layout.specs.Parts.{round_count, calendar_count, links_in}
+use Rattle.layout.specs.Faults.{marked, bad_side, token_fault, Headed}
+use Rattle.layout.specs.Parts.{links_in}
 
 pub record Clean (number : ℕ) (bytes : List ℕ) : Type 0 where
-  pub long : 48 ≤ length bytes
+  pub head : Headed number bytes
   pub mark : marked bytes ≡ true
   pub version : pair_at bytes 3 ≡ 1
   pub hash : get_or bytes 5 0 ≡ number
-  pub round_short : round_count bytes ≤ 64
-  pub calendar_short : calendar_count bytes ≤ 31
-  pub size : length bytes ≡ length_told bytes
   pub sides : bad_side 48 (links_in bytes) ≡ None
   pub early : number_at bytes 42 < 2 ^ 31
   pub covered : number_at bytes 38 ≤ number_at bytes 42
@@ -40,13 +37,17 @@ clean number bytes e =
     let publication = none_held _ _ _ side.1 in
     let second = none_held _ _ _ publication.1 in
     record {
-      long = ltb-false _ _ short.0;
+      head =
+          record {
+            long = ltb-false _ _ short.0;
+            round_short = ltb-false _ _ round.0;
+            calendar_short = ltb-false _ _ calendar.0;
+            size = eqb-true _ _ (not-false _ size.0);
+            rest = e ∙ sym size.1;
+          };
       mark = not-false _ mark.0;
       version = eqb-true _ _ (not-false _ version.0);
       hash = eqb-true _ _ (not-false _ hash.0);
-      round_short = ltb-false _ _ round.0;
-      calendar_short = ltb-false _ _ calendar.0;
-      size = eqb-true _ _ (not-false _ size.0);
       sides = side.0;
       early = leb-false _ _ publication.0;
       covered = ltb-false _ _ second.0;

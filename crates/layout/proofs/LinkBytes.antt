@@ -1,8 +1,7 @@
 -- Links written and read again, and read and written again.
 use Rattle.std.proofs.Common.{◌≡◌, ℕ, zero, suc, ◌+◌, ◌*◌, ◌≤◌, false, ltb, List, [], ◌∷◌, ◌++◌, map, length, get_or, take, drop, Some, None, sym, refl, ap, ◌∙◌, ap₂, inl, inr, arith}
-use Rattle.std.specs.List.{flat_map}
 use Rattle.std.specs.Simd.{first_chunks}
-use Rattle.std.proofs.lemmas.List.{append_assoc, drop_more, take_all, take_at, drop_at, length-drop, length-take-le, take-append-drop}
+use Rattle.std.proofs.lemmas.List.{drop_more, take_all, take_at, drop_at, length-drop, length-take-le, take-append-drop}
 use Rattle.std.proofs.lemmas.Bool.{cases_Bool, cond-true, ltb-false, cond-false}
 use Rattle.digest.specs.declared.value.Digest.{Digest}
 use Rattle.tree.specs.declared.link.Link.{Link}
@@ -15,10 +14,6 @@ use Rattle.wire.proofs.Parts.{bytes_drop, bytes_take}
 use Rattle.layout.specs.Content.{link_bytes, links_bytes}
 use Rattle.layout.specs.Parts.{side_of, link_of}
 use Rattle.layout.specs.Faults.{bad_side}
-
-pub joined_append : {X A : Type 0} (f : X → List A) (xs ys : List X) → flat_map f (xs ++ ys) ≡ flat_map f xs ++ flat_map f ys
-joined_append f [] ys = refl
-joined_append f (x ∷ xs) ys = ap (λ zs. f x ++ zs) (joined_append f xs ys) ∙ sym (append_assoc (f x) (flat_map f xs) (flat_map f ys))
 
 length_link : (link : Link Digest) → length (link_bytes link) ≡ 33
 length_link link = omega (arith, link.sibling.whole)

@@ -27,8 +27,8 @@ module _ (bytes : List ℕ) where
   pub whole : (number : ℕ) → Clean number bytes → Whole (content (parts_of bytes))
   whole number c =
       record {
-        round_short = omega (arith, length_round, c.round_short);
-        calendar_short = omega (arith, length_calendar, c.calendar_short);
+        round_short = omega (arith, length_round, c.head.round_short);
+        calendar_short = omega (arith, length_calendar, c.head.calendar_short);
         early = c.early;
         covered = c.covered;
       }
@@ -37,4 +37,4 @@ pub longest_law : LongestLaw
 longest_law number bytes t e =
     let ok = unless_ok (token_fault number bytes) (content (parts_of bytes)) t e in
     let c = clean number bytes ok.0 in
-    (subst Whole ok.1 (whole bytes number c), omega (arith, c.size, c.round_short, c.calendar_short))
+    (subst Whole ok.1 (whole bytes number c), omega (arith, c.head.size, c.head.round_short, c.head.calendar_short))

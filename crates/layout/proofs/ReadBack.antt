@@ -1,5 +1,6 @@
 -- Bytes that read write back as they were.
 use Rattle.std.proofs.Common.{◌≡◌, ℕ, ◌+◌, ◌≤◌, List, [], ◌∷◌, ◌++◌, map, length, get_or, take, drop, sym, refl, ap, ◌∙◌, ap₂, arith}
+use Rattle.std.proofs.lemmas.Grind.{flat_map-append}
 use Rattle.std.proofs.lemmas.List.{take-append-drop, drop-drop, drop_more, length-drop, length-take-le, map-append, take_all}
 use Rattle.std.proofs.lemmas.Bool.{and_parts, eqb-true}
 use Rattle.digest.specs.Messages.{four_bytes}
@@ -12,7 +13,7 @@ use Rattle.layout.specs.Laws.{ReadLaw}
 use Rattle.layout.specs.Parts.{round_count, calendar_count, links_in, link_of, parts_of, content}
 use Rattle.layout.proofs.Clean.{Clean, clean}
 use Rattle.wire.proofs.Firsts.{unless_ok}
-use Rattle.layout.proofs.LinkBytes.{joined_append, links_written}
+use Rattle.layout.proofs.LinkBytes.{links_written}
 use Rattle.wire.proofs.Parts.{bytes_drop, bytes_take}
 use Rattle.layout.proofs.Longest.{length_round, length_calendar}
 
@@ -41,26 +42,26 @@ module _ (number : ℕ) (bytes : List ℕ) (c : Clean number bytes) (fits : Byte
       let a : ℕ = round_count bytes in
       let front : List (List ℕ) = take a (links_in bytes) in
       let back : List (List ℕ) = drop a (links_in bytes) in
-      sym (joined_append link_bytes (map link_of front) (map link_of back))
+      sym (flat_map-append link_bytes (map link_of front) (map link_of back))
       ∙ (ap links_bytes (sym (map-append link_of front back) ∙ ap (map link_of) (take-append-drop a (links_in bytes)))
       ∙ links_written (a + calendar_count bytes) (drop 48 bytes) 48 (bytes_drop 48 bytes fits)
-      (length-drop 48 bytes ∙ omega (arith, c.size)) c.sides)
+      (length-drop 48 bytes ∙ omega (arith, c.head.size)) c.sides)
 
   counts : round_count bytes ∷ calendar_count bytes ∷ drop 48 bytes ≡ drop 46 bytes
   counts =
-      sym (drop_more bytes 46 0 (omega (arith, c.long)) ∙ ap (λ ys. round_count bytes ∷ ys) (drop_more bytes 47 0 (omega (arith, c.long))))
+      sym (drop_more bytes 46 0 (omega (arith, c.head.long)) ∙ ap (λ ys. round_count bytes ∷ ys) (drop_more bytes 47 0 (omega (arith, c.head.long))))
 
   publication : four_bytes (number_at bytes 42) ++ drop 46 bytes ≡ drop 42 bytes
   publication =
-      ap (λ ys. ys ++ drop 46 bytes) (number_written bytes 42 fits (omega (arith, c.long))) ∙ cut 42 4 46 bytes refl
+      ap (λ ys. ys ++ drop 46 bytes) (number_written bytes 42 fits (omega (arith, c.head.long))) ∙ cut 42 4 46 bytes refl
 
   second : four_bytes (number_at bytes 38) ++ drop 42 bytes ≡ drop 38 bytes
-  second = ap (λ ys. ys ++ drop 42 bytes) (number_written bytes 38 fits (omega (arith, c.long))) ∙ cut 38 4 42 bytes refl
+  second = ap (λ ys. ys ++ drop 42 bytes) (number_written bytes 38 fits (omega (arith, c.head.long))) ∙ cut 38 4 42 bytes refl
 
   recorded : (digest_of (take 32 (drop 6 bytes))).bytes ++ drop 38 bytes ≡ drop 6 bytes
   recorded =
       let part : List ℕ = take 32 (drop 6 bytes) in
-      let room : 32 ≤ length (drop 6 bytes) = omega (arith, length-drop 6 bytes, c.long) in
+      let room : 32 ≤ length (drop 6 bytes) = omega (arith, length-drop 6 bytes, c.head.long) in
       let size : length part ≡ 32 = length-take-le 32 (drop 6 bytes) room in
       ap (λ ys. ys ++ drop 38 bytes)
       (digest_bytes part (bytes_take 32 (drop 6 bytes) room (bytes_drop 6 bytes fits)) (omega arith) ∙ take_all 32 part (omega arith))
@@ -79,7 +80,7 @@ module _ (number : ℕ) (bytes : List ℕ) (c : Clean number bytes) (fits : Byte
       ap₂ (λ x y. x ∷ y ∷ 84 ∷ 0 ∷ 1 ∷ number ∷ drop 6 bytes) b₀ b₁
       ∙ (ap₂ (λ x y. get_or bytes 0 0 ∷ get_or bytes 1 0 ∷ x ∷ y ∷ 1 ∷ number ∷ drop 6 bytes) b₂ b₃
       ∙ (ap₂ (λ x y. get_or bytes 0 0 ∷ get_or bytes 1 0 ∷ get_or bytes 2 0 ∷ get_or bytes 3 0 ∷ x ∷ y ∷ drop 6 bytes) b₄ (sym c.hash)
-      ∙ six bytes (omega (arith, c.long))))
+      ∙ six bytes (omega (arith, c.head.long))))
 
   pub read_back : layout number (content (parts_of bytes)) ≡ bytes
   unfolding layout

@@ -1,6 +1,7 @@
 -- Every token that is written reads back as it was.
 use Rattle.std.proofs.Common.{◌≡◌, ℕ, ◌+◌, List, [], ◌∷◌, ◌++◌, map, length, get_or, take, drop, None, sym, refl, ap, ◌∙◌, ap₂, arith}
 use Rattle.std.specs.Simd.{first_chunks}
+use Rattle.std.proofs.lemmas.Grind.{flat_map-append}
 use Rattle.std.proofs.lemmas.List.{append_assoc, take_at, drop_at, take_all, take-map, drop-map, length-append, get_or_at}
 use Rattle.digest.specs.declared.value.Digest.{Digest}
 use Rattle.digest.specs.Messages.{four_bytes}
@@ -15,7 +16,7 @@ use Rattle.layout.specs.Laws.{WrittenLaw}
 use Rattle.layout.specs.Parts.{round_count, calendar_count, links_in, link_of, parts_of, content}
 use Rattle.layout.proofs.Faulted.{past_length, past_all}
 use Rattle.layout.proofs.Links.{length_links}
-use Rattle.layout.proofs.LinkBytes.{joined_append, chunked_links, links_read, sides_good}
+use Rattle.layout.proofs.LinkBytes.{chunked_links, links_read, sides_good}
 
 -- contents that are equal one by one
 same_content : {d₁ d₂ : Digest} {s₁ s₂ p₁ p₂ : ℕ} {a₁ a₂ c₁ c₂ : List (Link Digest)} → d₁ ≡ d₂ → s₁ ≡ s₂ → p₁ ≡ p₂ → a₁ ≡ a₂ → c₁ ≡ c₂
@@ -94,7 +95,7 @@ module _ (number : ℕ) (t : Content) where
       omega (arith, round_is, calendar_is, length-append t.round t.calendar) in
       let rest : drop 48 (layout number t) ≡ links_bytes all =
       ap (drop 48) at_48
-      ∙ (drop_at (head_46 ++ length t.round ∷ length t.calendar ∷ []) links 48 long_48 ∙ sym (joined_append link_bytes t.round t.calendar)) in
+      ∙ (drop_at (head_46 ++ length t.round ∷ length t.calendar ∷ []) links 48 long_48 ∙ sym (flat_map-append link_bytes t.round t.calendar)) in
       ap₂ (λ n xs. first_chunks 33 n xs) count rest ∙ chunked_links all (length all) refl
 
   round_read : map link_of (take (round_count (layout number t)) (links_in (layout number t))) ≡ t.round

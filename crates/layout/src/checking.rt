@@ -6,19 +6,19 @@ ghost use Rattle.layout.specs.Laws.{LongestLaw, TokenLaw};
 use crate::fault::Fault;
 use crate::sizes::{HEAD, LINK, MOST_CALENDAR, MOST_ROUND, PUBLICATIONS};
 use digest::Hash;
+use tree::Side;
 use wire::number_at;
 
 const VERSION: u16 = 1;
 
-// The largest number of a side.
-const LAST_SIDE: u8 = 1;
-
-// The place of the first side above 1.
-fn bad_side(links: &[[u8; 33]]) -> Option<usize>
+// The place of the first number that names no side.
+fn bad_side(links: &[[u8; LINK]]) -> Option<usize>
     requires { length links.now ≤ 95 }
     ensures { result ≡ bad_side 48 links.now }
 {
-    let place = links.iter().position(|link| link[0] > LAST_SIDE)?;
+    let place = links
+        .iter()
+        .position(|link| Side::try_from(link[0]).is_err())?;
     Some(HEAD + LINK * place)
 }
 
@@ -61,7 +61,7 @@ pub fn check<H: Hash>(bytes: &[u8]) -> Result<(), Fault>
     ensures longest { LongestLaw }
 {
     head::<H>(bytes)?;
-    let (links, _) = bytes[HEAD..].as_chunks::<33>();
+    let (links, _) = bytes[HEAD..].as_chunks::<LINK>();
     if let Some(place) = bad_side(links) {
         return Err(Fault::Side(place));
     }

@@ -7,7 +7,7 @@ ghost use Rattle.token.specs.Held.{held, told};
 
 use crate::token::Token;
 use digest::Hash;
-use layout::{Fault, HEAD, check};
+use layout::{Fault, HEAD, LINK, check};
 use wire::number_at;
 
 // The parts of bytes that have the length their counts ask for.
@@ -16,7 +16,7 @@ fn parted(bytes: &[u8]) -> Token<'_>
     ensures { held result ≡ parts_of bytes.now }
 {
     let recorded = bytes[6..].first_chunk().unwrap();
-    let (links, _) = bytes[HEAD..].as_chunks::<33>();
+    let (links, _) = bytes[HEAD..].as_chunks::<LINK>();
     let (round, calendar) = links.split_at(bytes[46] as usize);
     Token {
         bytes,

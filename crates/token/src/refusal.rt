@@ -12,7 +12,7 @@ pub enum WriteRefusal {
 }
 
 impl WriteRefusal {
-    // The refusal's number in the rule book.
+    // The refusal's number in the rule book. No trait: each impl would have this body, and each contract cites a table of its own.
     pub fn number(self) -> u8
         ensures { result ≡ write_number self }
     {

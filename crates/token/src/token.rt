@@ -9,17 +9,18 @@ ghost use Rattle.token.specs.Copied.{copy_answer, write_after};
 use crate::links::fill;
 use crate::refusal::WriteRefusal;
 use digest::Digest;
+use layout::LINK;
 use tree::Link;
 
 // Clauses see it by `held`: a type with a lifetime that is `Copy` can have no model.
-#[derive(Clone, Copy)]
+#[derive(Clone, Copy, Debug, PartialEq, Eq)]
 pub struct Token<'a> {
     pub(crate) bytes: &'a [u8],
     pub(crate) recorded: &'a [u8; 32],
     pub(crate) second: u32,
     pub(crate) publication: u32,
-    pub(crate) round: &'a [[u8; 33]],
-    pub(crate) calendar: &'a [[u8; 33]],
+    pub(crate) round: &'a [[u8; LINK]],
+    pub(crate) calendar: &'a [[u8; LINK]],
 }
 
 impl<'a> Token<'a> {
@@ -57,21 +58,22 @@ impl<'a> Token<'a> {
     }
 
     // The round links, parts of the token of 33 bytes each.
-    pub fn round(&self) -> &'a [[u8; 33]]
+    pub fn round(&self) -> &'a [[u8; LINK]]
         ensures { result.now ≡ (held self.now).round }
     {
         self.round
     }
 
     // The calendar links, parts of the token of 33 bytes each.
-    pub fn calendar(&self) -> &'a [[u8; 33]]
+    pub fn calendar(&self) -> &'a [[u8; LINK]]
         ensures { result.now ≡ (held self.now).calendar }
     {
         self.calendar
     }
 
     // Writes the round links as records at the front of `out`, and answers how many there are.
-    // The arrays differ in size, so there are two methods over one `fill`.
+    // The arrays differ in size, so there are two methods over one `fill`. The caller lends the memory, a rule of the project,
+    // and places behind the links stay as they were: so they write into an array and answer a count.
     pub fn round_links(&self, out: &mut [Link<Digest>; 64]) -> usize
         ensures count { result ≡ min (length (held self.now).round) 64 }
         ensures links { out.new ≡ over (take result (content (held self.now)).round) out.old }

@@ -14,7 +14,7 @@ parted-requires g c =
     let bytes : List ℕ = c.args.bytes.now in
     let number : ℕ = g.H.Hash.NUMBER in
     let ok = clean number bytes (unless_ok (token_fault number bytes) _ _ (sym c.in_ok-check.ensures.answer)).0 in
-    (ok.long, ok.size)
+    (ok.head.long, ok.head.size)
 
 pub returns-in_err-check : goal.returns-in_err-check
 returns-in_err-check g c =
