@@ -6,7 +6,7 @@ ghost use Rattle.std.proofs.Common.{rules};
 
 use crate::kind::{Front, Items, Kind};
 use crate::layer::Layer;
-use digest::{Digest, Hash, ROUND, Seed, mask, node};
+use digest::{Digest, Hash, Round, Seed, mask, node};
 use pile::Pile;
 use tree::{Link, Side};
 
@@ -48,7 +48,7 @@ impl Kind for Masks {
         // a loop, since `collect` and `extend` of an ArrayVec answer a Result, and this can't fail
         for (place, item) in list.iter().enumerate() {
             let over = mask::<H>(&self.seed, second, place as u16);
-            hidden.push(node::<H, ROUND>(&over, item));
+            hidden.push(node::<H, Round>(&over, item));
         }
         hidden
     }
