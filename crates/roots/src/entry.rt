@@ -3,6 +3,7 @@ ghost use Rattle.std.specs.Prelude.{◌≡◌};
 ghost use Rattle.roots.specs.Entries.{second_in, entry_of, entry_bytes};
 
 use crate::order::Dated;
+use crate::reading::ENTRY;
 use digest::Digest;
 use wire::number_at;
 
@@ -21,7 +22,7 @@ impl Dated for Entry {
     }
 }
 
-impl Dated for [u8; 36] {
+impl Dated for [u8; ENTRY] {
     ghost dated = { second_in };
 
     fn second(&self) -> u32 {
@@ -30,10 +31,10 @@ impl Dated for [u8; 36] {
 }
 
 // The entry that bytes print.
-impl From<&[u8; 36]> for Entry {
+impl From<&[u8; ENTRY]> for Entry {
     ghost from_gives = { λ raw entry. entry ≡ entry_of raw.now };
 
-    fn from(raw: &[u8; 36]) -> Entry
+    fn from(raw: &[u8; ENTRY]) -> Entry
         ensures { result ≡ entry_of raw.now }
     {
         let root = raw[4..].first_chunk().unwrap();
@@ -45,13 +46,13 @@ impl From<&[u8; 36]> for Entry {
 }
 
 // The bytes that print an entry.
-impl From<&Entry> for [u8; 36] {
+impl From<&Entry> for [u8; ENTRY] {
     ghost from_gives = { λ entry raw. raw ≡ entry_bytes entry.now };
 
-    fn from(entry: &Entry) -> [u8; 36]
+    fn from(entry: &Entry) -> [u8; ENTRY]
         ensures { result ≡ entry_bytes entry.now }
     {
-        let mut raw = [0; 36];
+        let mut raw = [0; ENTRY];
         raw[..4].copy_from_slice(&entry.second.to_be_bytes());
         raw[4..].copy_from_slice(entry.root.as_bytes());
         raw

@@ -39,7 +39,7 @@ pub enum PrintRefusal {
 }
 
 impl PrintRefusal {
-    // The refusal's number in the rule book.
+    // The refusal's number in the rule book. No trait: each impl would have this body, and each contract cites a table of its own.
     pub fn number(self) -> u8
         ensures { result ≡ print_number self }
     {

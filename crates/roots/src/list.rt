@@ -4,10 +4,11 @@ ghost use Rattle.std.specs.List.{slice_get};
 ghost use Rattle.roots.specs.Entries.{listed};
 
 use crate::entry::Entry;
+use crate::reading::ENTRY;
 
-#[derive(Clone, Copy)]
+#[derive(Clone, Copy, Debug, PartialEq, Eq)]
 pub struct PrintedList<'a> {
-    pub(crate) entries: &'a [[u8; 36]],
+    pub(crate) entries: &'a [[u8; ENTRY]],
 }
 
 impl PrintedList<'_> {

@@ -22,7 +22,7 @@ fn write_list(number: u8, entries: &[Entry], out: &mut [u8])
     // Not `as_chunks_mut`: no clause tells what the slice ends as.
     for (place, entry) in entries.iter().enumerate() {
         let at = HEAD + ENTRY * place;
-        out[at..at + ENTRY].copy_from_slice(&<[u8; 36]>::from(entry));
+        out[at..at + ENTRY].copy_from_slice(&<[u8; ENTRY]>::from(entry));
     }
 }
 

@@ -40,7 +40,7 @@ pub fn read_list<H: Hash>(bytes: &[u8]) -> Result<PrintedList<'_>, ListFault>
     if count > MOST || bytes.len() != HEAD + ENTRY * count {
         return Err(ListFault::Size);
     }
-    let (entries, _) = raw.as_chunks::<36>();
+    let (entries, _) = raw.as_chunks::<ENTRY>();
     if !rises(entries) {
         return Err(ListFault::Seconds);
     }

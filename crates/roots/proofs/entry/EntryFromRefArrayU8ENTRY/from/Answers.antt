@@ -2,7 +2,7 @@ use Rattle.std.proofs.Common.{◌≡◌, ℕ, List, take, drop, sym, ◌∙◌, 
 use Rattle.digest.specs.declared.value.Digest.{Digest}
 use Rattle.wire.proofs.Digests.{digest_is}
 use Rattle.roots.specs.declared.entry.Entry.{Entry}
-use Rattle.roots.proofs.entry.EntryFromRefArrayU836.from.Goals as goal
+use Rattle.roots.proofs.entry.EntryFromRefArrayU8ENTRY.from.Goals as goal
 
 made : ℕ → Digest → Entry
 made second root = record { second = second; root = root }
