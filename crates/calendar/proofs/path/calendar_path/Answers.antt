@@ -25,12 +25,6 @@ returns-then-links-count-clause-answer g c =
     links_short p c.args.second (length c.args.links.now) row there (omega arith) (omega arith) c.sides_of-count.result
     c.sides_of-count.ensures c.if-links-count.true
 
-pub write_path-requires-clause-there : goal.write_path-requires-clause-there
-write_path-requires-clause-there g c =
-    let row = g.R.Row.row c.args.row.now in
-    let there : c.args.publication < length row = (nth_some row c.args.publication c.in_ok-ok_or.field-0 (sym c.in_ok-ok_or.ensures.ok_part ∙ c.at.ensures)).0 in
-    (omega arith, omega arith, there)
-
 pub returns-clause-answer : goal.returns-clause-answer
 returns-clause-answer g c =
     let p : ℕ = c.args.publication in

@@ -16,14 +16,6 @@ parted-requires g c =
     let ok = clean number bytes (unless_ok (token_fault number bytes) _ _ (sym c.in_ok-check.ensures.answer)).0 in
     (ok.head.long, ok.head.size)
 
-pub returns-in_err-check : goal.returns-in_err-check
-returns-in_err-check g c =
-    let bytes : List ℕ = c.args.bytes.now in
-    let number : ℕ = g.H.Hash.NUMBER in
-    let p = err_from_is_err_and c.from_residual.result c.from_residual.ensures.1 in
-    let fault = unless_err (token_fault number bytes) _ _ (sym c.in_err-check.ensures.answer) in
-    rw (p.1, p.2) (record { answer = ap (λ x. unless x (parts_of bytes)) (sym fault); back = tt })
-
 pub returns : goal.returns
 returns g c =
     let bytes : List ℕ = c.args.bytes.now in

@@ -23,8 +23,3 @@ loop-part-preserved g c =
           subst (λ xs. RootsSoFar digested items xs left) (sym (c.push.ensures.items ∙ ap (λ x. roots ++ x ∷ []) c.group_root.ensures))
           (roots_more digested items roots rest c.in-Some.part.now left far.so steps.1.0 size steps.1.2);
     }
-
-pub returns : goal.returns
-returns g c =
-    roots_all g.H.Hash.digested c.args.list.now.items c.loop-part.roots.items (chunks_rest c.loop-part.part-iterator)
-    c.loop-part.invariant.so c.in-None.ensures.steps.1.0

@@ -42,13 +42,3 @@ returns g c =
       law = λ _. subst (Law digested) (sym kept) (layered_law laws next items round (c.commit.ensures.law c.in_ok-commit.was));
       empty = λ _. subst (EmptyLaw digested) (sym kept) (layered_empty laws next items round (c.commit.ensures.empty c.in_ok-commit.was));
     }
-
-pub returns-in_err-commit : goal.returns-in_err-commit
-returns-in_err-commit g c =
-    let p = c.args.self.now in
-    let m : Meaning = g.P.Pile.meaning p.below in
-    let laws = p.lowers g.P.Digester.Hash.digested in
-    let kept : List Digest = c.in_ok-list.list.items in
-    let fits = lowered_fits (laws c.seconds-second.result) (laws p.second) m kept (omega arith) in
-    let ok = served m c.deref.result.now (omega (arith, ap length (c.deref.ensures.0 ∙ c.lower-lowered.ensures))) (omega arith) in
-    no_refusal c.commit.result _ (c.commit.ensures.outcome ∙ ok) c.in_err-commit.was
