@@ -12,7 +12,7 @@ use crate::roots::Roots;
 use digest::{Digest, Hash};
 use std::marker::PhantomData;
 
-// A list of roots, which is empty before the first load.
+// A list of roots, which is empty before the first load. It has no model: clauses read its list, and callers see its order by the ghost field.
 #[derive(Drop)]
 pub struct Holder<'a, D> {
     list: PrintedList<'a>,

@@ -13,7 +13,7 @@ use layout::{HEAD, LINK, MOST_CALENDAR, MOST_ROUND, PUBLICATIONS};
 use token::WriteRefusal;
 use tree::Link;
 
-// A link in 33 bytes: its side, and the sibling. A `From` must stand in the crate of one of its types.
+// A link in 33 bytes: its side, and the sibling. A `From` would have to stand in `tree`, which does not know the format.
 fn raw(link: &Link<Digest>) -> [u8; 33]
     ensures { result ≡ link_bytes link.now }
 {
