@@ -22,6 +22,7 @@ impl Hash for Sha3 {
         Self::NUMBER
     }
 
+    // Each hash tests the length itself: a shared body would need a trait that asks for the inner function, and is no plainer.
     fn digest(message: &[u8]) -> Result<Digest, Refusal> {
         if message.len() > LONGEST {
             return Err(Refusal::TooLong);
