@@ -23,7 +23,7 @@ impl From<u8> for Under {
     }
 }
 
-#[derive(Clone, Copy)]
+#[derive(Clone, Copy, Debug, PartialEq, Eq)]
 pub(crate) struct Case<'a> {
     pub name: &'a str,
     pub under: Under,

@@ -61,6 +61,7 @@ fn schedule(block: &[u8; 64]) -> [u32; 64]
 {
     let (given, _) = block.as_chunks::<4>();
     let mut w = [0; 64];
+    // By index: behind an adapter of `iter_mut` no clause tells what the slice holds afterwards.
     for (t, bytes) in given.iter().enumerate() {
         w[t] = u32::from_be_bytes(*bytes);
     }

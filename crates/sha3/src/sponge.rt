@@ -13,6 +13,7 @@ fn mix(mut a: [u64; 25], block: &[u8; RATE]) -> [u64; 25]
     ensures { result ≡ mixed a block.now }
 {
     let (words, _) = block.as_chunks::<8>();
+    // By index: behind an adapter of `iter_mut` no clause tells what the slice holds afterwards.
     for (i, word) in words.iter().enumerate() {
         a[i] ^= u64::from_le_bytes(*word);
     }

@@ -1,11 +1,10 @@
 use Rattle.std.proofs.Common.{◌≡◌, ℕ, List, None, Ok, sym, ap, ◌∙◌, arith}
-use Rattle.std.proofs.lemmas.Result.{err_from_is_err_and}
 use Rattle.layout.specs.Content.{layout}
 use Rattle.layout.specs.Faults.{token_fault}
 use Rattle.wire.specs.Faults.{unless}
 use Rattle.layout.specs.Parts.{parts_of, content}
 use Rattle.layout.proofs.Clean.{clean}
-use Rattle.wire.proofs.Firsts.{unless_ok, unless_err}
+use Rattle.wire.proofs.Firsts.{unless_ok}
 use Rattle.layout.proofs.ReadBack.{read_back}
 use Rattle.token.proofs.reading.read.Goals as goal
 

@@ -1,7 +1,7 @@
 use Rattle.std.proofs.Common.{ℕ, min, List, [], ◌∷◌, ◌++◌, length, sym, ap, ◌∙◌, subst, arith}
 use Rattle.std.specs.Slice.Iter.{chunks_rest}
 use Rattle.digest.specs.declared.value.Digest.{Digest}
-use Rattle.layers.proofs.Eights.{RootsSoFar, roots_more, roots_all}
+use Rattle.layers.proofs.Eights.{RootsSoFar, roots_more}
 use Rattle.layers.proofs.grouping.GroupsKind.lower.Goals as goal
 
 pub loop-part-preserved : goal.loop-part-preserved

@@ -4,8 +4,7 @@ use Rattle.pile.specs.Meaning.{Meaning, Law, EmptyLaw}
 use Rattle.pile.specs.Answers.{committed}
 use Rattle.pile.proofs.Answered.{served}
 use Rattle.layers.specs.Layered.{layered_meaning, layered_seal}
-use Rattle.layers.proofs.Ways.{no_refusal}
-use Rattle.layers.proofs.Layers.{lowered_fits, layered_after, layered_law, layered_empty}
+use Rattle.layers.proofs.Layers.{layered_after, layered_law, layered_empty}
 use Rattle.layers.proofs.layer.LayerPile.commit.Goals as goal
 
 pub returns : goal.returns
