@@ -47,14 +47,7 @@ impl Hash for Sha256 {
 
     ghost within = { Prim.search rules };
 
-<<<<<<< HEAD
-=======
-    fn code() -> u8 {
-        Self::NUMBER
-    }
-
     // Each hash tests the length itself: a shared body would need a trait that asks for the inner function, and is no plainer.
->>>>>>> hF
     fn digest(message: &[u8]) -> Result<Digest, Refusal> {
         if message.len() > LONGEST {
             return Err(Refusal::TooLong);
