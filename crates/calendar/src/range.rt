@@ -26,7 +26,8 @@ pub(crate) fn range_root<J: Joining, R: Row<Node = J::Node>>(
     forest.whole::<J>()
 }
 
-// The root of the calendar that a publication closes; none where the publication is not there.
+// The root of the calendar that a publication closes; none where the publication is not there. Row and publication go as
+// they are: a struct of both would be made in each public call and used once.
 pub fn calendar_root<J: Joining, R: Row<Node = J::Node>>(
     row: &R,
     publication: u32,

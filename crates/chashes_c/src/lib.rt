@@ -1,4 +1,5 @@
 // The two hashes for C: a message as pointer and length, 32 bytes of the caller's for the digest, and 0 or a refusal's number.
+// Two functions, since C calls each hash by a name of its own.
 #![tactic(auto)]
 
 ghost use Rattle.std.specs.Prelude.{◌≡◌};

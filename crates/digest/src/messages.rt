@@ -32,7 +32,8 @@ fn joined(tag: u8, left: &Digest, right: &Digest) -> [u8; 65]
     message
 }
 
-// The second in four bytes, and behind it the place in two.
+// The second in four bytes, and behind it the place in two. The two go as they are: a struct would be made only to be
+// taken apart here.
 fn placed(second: u32, place: u16) -> [u8; 6]
     ensures { result ≡ four_bytes second ++ two_bytes place }
 {

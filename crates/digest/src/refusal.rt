@@ -8,7 +8,8 @@ pub enum Refusal {
 }
 
 impl Refusal {
-    // The number of this refusal in the rule book.
+    // The number of this refusal in the rule book. No trait for all refusals: each impl would have this body, and each
+    // contract cites a table of its own.
     pub fn number(self) -> u8
         ensures { result ≡ refusal_number self }
     {

@@ -1,6 +1,7 @@
 // The secret from which masks are made: 32 bytes.
 ghost use Rattle.std.specs.Prelude.{◌≡◌};
 
+// No `Debug` and no `==`, since it is a secret, and no digest's type, so that the two do not mix.
 #[derive(Clone, Copy)]
 pub struct Seed {
     bytes: [u8; 32],

@@ -25,7 +25,7 @@ impl Digest {
         &self.bytes
     }
 
-    // Whether both are one digest; `==` answers the same.
+    // Whether both are one digest. The derived `==` answers the same, but its own clause speaks of the bytes alone.
     pub fn is_same(&self, other: &Digest) -> bool
         ensures { Decides result (self.now ≡ other.now) }
     {

@@ -9,7 +9,8 @@ use digest::Digest;
 const LONGEST: usize = 0x8000_0000;
 
 // The program lends the memory, so the seconds are a slice and a count. `filled` says whether the last round had a digest,
-// which is the row's last one: an Option of it would keep it twice.
+// which is the row's last one: an Option of it would keep it twice. No model: clauses speak of the lent row itself, which a
+// model that shows the calendar alone would hide.
 #[derive(Drop)]
 pub(crate) struct Records<'a> {
     lent: &'a mut [Digest],
@@ -83,7 +84,7 @@ impl Records<'_> {
         }
     }
 
-    // Enters the digest of the next second.
+    // Enters the digest of the next second. `filled` is kept, and picks no step.
     pub(crate) fn enter(&mut self, digest: Digest, filled: bool)
         requires { self.old.held < head_span self.old.lent.now }
         ensures lent { self.new.lent.now ≡ slice_set self.old.lent.now self.old.held digest }

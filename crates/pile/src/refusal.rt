@@ -1,4 +1,5 @@
-// Why a pile turns a call away.
+// Why a pile turns a call away: an enum for each call, with the cases that it can answer. No trait for their numbers: each
+// impl would have the same body, and each contract cites a table of its own.
 ghost use Rattle.std.specs.Prelude.{◌≡◌};
 ghost use Rattle.pile.specs.Answers.{commit_number, way_number};
 

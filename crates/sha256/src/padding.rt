@@ -16,7 +16,7 @@ pub(crate) fn blocks(len: usize) -> usize
     if len % 64 < ROOM { 1 } else { 2 }
 }
 
-// What is left of a message, the padding's first byte, and zeros.
+// What is left of a message, the padding's first byte, and zeros: always two blocks, of which `blocks` tells how many count.
 #[tactic(auto, using(crate::proofs::Ends::marked_is))]
 fn marked(rest: &[u8]) -> [u8; 128]
     requires { length rest.now < 64 }

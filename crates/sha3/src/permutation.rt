@@ -38,7 +38,7 @@ const CONSTANTS: [u64; 24] = [
     0x8000000080008008,
 ];
 
-// Where the lane of column x and row y stands; both count modulo 5.
+// Where the lane of column x and row y stands; both count modulo 5. x and y go as they are, as the standard writes A[x, y].
 #[tactic(auto, unfolding(crate::specs::Keccak::place))]
 fn place(x: usize, y: usize) -> usize
     ensures value { result ≡ place x y }
@@ -69,7 +69,7 @@ pub fn rotation(x: usize, y: usize) -> Option<u32>
     (x < 5 && y < 5).then(|| offset(x, y))
 }
 
-// What ι adds in round k, or none past the last round.
+// What ι adds in round k, or none past the last round: an entry of this standard's own table.
 pub fn round_constant(k: usize) -> Option<u64>
     ensures { result ≡ constant_of k }
 {

@@ -27,7 +27,8 @@ fn write_shape(n: usize, place: usize, out: &mut [Side]) -> usize
     count
 }
 
-// Whether a publication's calendar has a second.
+// Whether a publication's calendar has a second. The two numbers go as they are: the public calls take them so, and a
+// struct of both would be made and taken apart in each.
 fn calendar_has(publication: u32, second: u32) -> bool
     ensures value { Decides result (second ≤ publication) }
     ensures apart { PlaceLaw }
@@ -59,7 +60,7 @@ fn same(left: &[Side], right: &[Side]) -> bool
     left == right
 }
 
-// Whether these are the sides of a place among n leaves.
+// Whether these are the sides of a place among n leaves: written out and compared as lists, as the contract says it.
 fn shape_is(n: usize, place: usize, sides: &[Side]) -> bool
     requires { n ≤ 2 ^ 32 }
     ensures { Decides result (sides.now ≡ shape n place) }
