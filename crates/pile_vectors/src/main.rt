@@ -159,6 +159,7 @@ fn stacks<H: Hash>(rt: &HostRuntime, hash: &str) -> anyhow::Result<()> {
     rounds(rt, hash, "masking masking grouping", masked(lower, UPPER))
 }
 
+// Each program names the hashes that it runs.
 fn main(rt: HostRuntime) -> anyhow::Result<()> {
     stacks::<Sha256>(&rt, "SHA-256")?;
     stacks::<Sha3>(&rt, "SHA3-256")

@@ -15,7 +15,7 @@ pub enum Side {
 pub struct UnknownSide(pub u8);
 
 impl Side {
-    // The side's number in tokens and shapes.
+    // The side's number in tokens and shapes: its discriminant, under a name and a contract.
     pub fn number(self) -> u8
         ensures { result ≡ side_number self }
     {

@@ -7,7 +7,8 @@ ghost use Rattle.tree.specs.Trees.{shape, second_shape};
 use crate::descent::Siblings;
 use crate::link::Side;
 
-// How many sides a place has among n leaves.
+// How many sides a place has among n leaves. Leaves and place go as they are: `Siblings` is made of both here and below,
+// and a struct before it would hold no more.
 pub fn sides_of(n: usize, place: usize) -> usize
     ensures { result ≡ length (shape n place) }
 {

@@ -92,6 +92,7 @@ fn all<H: Hash>(rt: &HostRuntime, name: &str) -> anyhow::Result<()> {
     tagged::<H>(rt, name)
 }
 
+// Each program names the hashes that it runs.
 fn main(rt: HostRuntime) -> anyhow::Result<()> {
     all::<Sha256>(&rt, "SHA-256")?;
     all::<Sha3>(&rt, "SHA3-256")
