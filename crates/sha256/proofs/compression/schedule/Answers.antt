@@ -1,5 +1,4 @@
-use Rattle.std.proofs.Common.{◌≡◌, ◌≤◌, length, sym, ◌/◌, ap, ◌∙◌, arith, length-set}
-use Rattle.std.proofs.lemmas.List.{take_all}
+use Rattle.std.proofs.Common.{◌≡◌, length, ◌/◌, ◌∙◌, arith, length-set}
 use Rattle.sha256.specs.Sha256.{schedule, next_word}
 use Rattle.sha256.specs.Words.{σ0, σ1}
 use Rattle.sha256.proofs.Steps.{word_read, block_more, schedule_more}
@@ -24,8 +23,3 @@ loop-t-2-preserved c = (
   length-set c.loop-t-2.w c.loop-t-2.t _ ∙ c.loop-t-2.invariant.0,
   schedule_more c.args.block.now c.loop-t-2.w c.loop-t-2.t _ (omega arith) (omega arith) c.loop-t-2.invariant.1 (cc),
 )
-
-pub returns : goal.returns
-returns c =
-    let full : length c.loop-t-2.w ≤ c.loop-t-2.t = omega arith in
-    sym (take_all c.loop-t-2.t c.loop-t-2.w full) ∙ c.loop-t-2.invariant.1 ∙ ap (schedule c.args.block.now) (omega arith)
