@@ -1,5 +1,5 @@
 #!/usr/bin/env python3
-"""Lists the places in crates/*/src that an older way of writing left, by eight points.
+"""Lists the places in crates/*/src that an older way of writing left, by seven points.
 
     tools/places.py            the checkout as it stands
     tools/places.py COMMIT     as it stood at a commit
