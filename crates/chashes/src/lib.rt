@@ -4,9 +4,13 @@
 
 ghost use Rattle.std.specs.Prelude.{◌≡◌};
 ghost use Rattle.digest.specs.Hashes.{answered};
+ghost use Rattle.sha256.specs.Sha256.{sha256};
+ghost use Rattle.sha3.specs.Sha3.{sha3_256};
 ghost use Rattle.chashes.specs.Told.{told, placed};
 
 use digest::Hash;
+use sha3::Sha3;
+use sha256::Sha256;
 
 #[repr(C)]
 #[derive(Clone, Copy, Debug, PartialEq, Eq)]
@@ -26,4 +30,20 @@ pub fn digest_into<H: Hash>(message: &[u8], out: &mut Place) -> u8
         }
         Err(refusal) => refusal.number(),
     }
+}
+
+// The SHA-256 digest of a message.
+pub fn rundapiyo_sha256(message: &[u8], out: &mut Place) -> u8
+    ensures outcome { result ≡ told (answered sha256 message.now) }
+    ensures after { out.new ≡ placed (answered sha256 message.now) out.old }
+{
+    digest_into::<Sha256>(message, out)
+}
+
+// The SHA3-256 digest of a message.
+pub fn rundapiyo_sha3_256(message: &[u8], out: &mut Place) -> u8
+    ensures outcome { result ≡ told (answered sha3_256 message.now) }
+    ensures after { out.new ≡ placed (answered sha3_256 message.now) out.old }
+{
+    digest_into::<Sha3>(message, out)
 }
