@@ -19,6 +19,9 @@ length_padded message =
     let ends : length (replicate {A = ℕ} z 0 ++ eight) ≡ z + 8 = simp (length-append, length-replicate) in
     length-append message (padding (length message)) ∙ omega (arith, ends)
 
+pub block_count : (message : List ℕ) → length (padded message) / 64 ≡ length message / 64 + tail_blocks (length message)
+block_count message = omega (arith, length_padded message, tail_sized (length message))
+
 -- the whole blocks of the message
 whole_is : (message : List ℕ)
     → fold compressed initial (first_chunks 64 (length message / 64) message) ≡ absorbed compressed initial 64 (padded message) (length message / 64)
@@ -38,7 +41,7 @@ all_is message last b n eb room el =
     let s = absorbed compressed initial 64 (padded message) k in
     let size : length (tail message) ≡ 64 * b =
     length-drop (k * 64) (padded message) ∙ omega (arith, eb, length_padded message, tail_sized (length message)) in
-    let count : k + b ≡ length (padded message) / 64 = omega (arith, eb, length_padded message, tail_sized (length message)) in
+    let count : k + b ≡ length (padded message) / 64 = omega (arith, eb, block_count message) in
     ap (λ (z : State). fold compressed z (take b (first_chunks 64 n last))) (whole_is message)
     ∙ ap (fold compressed s) (take-first_chunks 64 b n last room)
     ∙ chunks_absorbed compressed s 64 b last

@@ -7,13 +7,18 @@ use Rattle.sha256.specs.Words.{eight_bytes}
 use Rattle.sha256.specs.Sha256.{zeros, padding, padded}
 use Rattle.sha256.specs.Tail.{tail_blocks, tail}
 
--- a byte at the end of what a copy wrote into zeros
+-- a byte at the end of what a copy wrote into n zeros
+pub marked_in : (n : ℕ) (rest ys : List ℕ) → length rest < n → ys ≡ rest
+    → set (ys ++ drop (length rest) (replicate n 0)) (length rest) 0x80 ≡ rest ++ 0x80 ∷ replicate (n - 1 - length rest) 0
+marked_in n rest ys h e =
+    let left : n - length rest ≡ suc (n - 1 - length rest) = omega arith in
+    ap (λ (l : List ℕ). set l (length rest) 0x80) (ap₂ ◌++◌ e (drop-replicate {X = ℕ} (length rest) n 0 ∙ ap (λ (k : ℕ). replicate k 0) left))
+    ∙ set_at rest 0 (replicate (n - 1 - length rest) 0) 0x80 (length rest) refl
+
+-- the same in the two blocks of an end
 pub marked_is : (rest ys : List ℕ) → length rest < 64 → ys ≡ rest
     → set (ys ++ drop (length rest) (replicate 128 0)) (length rest) 0x80 ≡ rest ++ 0x80 ∷ replicate (127 - length rest) 0
-marked_is rest ys h e =
-    let left : 128 - length rest ≡ suc (127 - length rest) = omega arith in
-    ap (λ (l : List ℕ). set l (length rest) 0x80) (ap₂ ◌++◌ e (drop-replicate {X = ℕ} (length rest) 128 0 ∙ ap (λ (k : ℕ). replicate k 0) left))
-    ∙ set_at rest 0 (replicate (127 - length rest) 0) 0x80 (length rest) refl
+marked_is rest ys h e = marked_in 128 rest ys (omega arith) e
 
 -- eight bytes over the zeros behind the z that stay; q zeros are left
 module _ (rest eight : List ℕ) (z q : ℕ) where

@@ -16,11 +16,11 @@ use Rattle.sha256.specs.Keyed.{key, keyed, keyed_round}
 sum_assoc : (x y z : ℕ) → x ⊞ (y ⊞ z) ≡ x ⊞ y ⊞ z
 sum_assoc x y z = omega arith
 
-length_keyed : (W : List ℕ) → length (keyed W) ≡ 64
+pub length_keyed : (W : List ℕ) → length (keyed W) ≡ 64
 unfolding keyed
 length_keyed W = length-map-range_with_len (key W) 0 64
 
-keyed_at : (W : List ℕ) (t : ℕ) → t < 64 → get_or (keyed W) t 0 ≡ key W t
+pub keyed_at : (W : List ℕ) (t : ℕ) → t < 64 → get_or (keyed W) t 0 ≡ key W t
 unfolding keyed
 keyed_at W t h = get_or-map-range_with_len (key W) 0 64 t t 0 h (zero-add t)
 
@@ -32,7 +32,7 @@ keyed_round_is W s t h =
     ∙ sum_assoc (s.h ⊞ Σ1 s.e ⊞ Ch s.e s.f s.g) (get_or K t 0) (get_or W t 0))
 
 -- the first n rounds
-rounds_are : (W : List ℕ) (s : State) (n : ℕ) → n ≤ 64 → fold keyed_round s (take n (keyed W)) ≡ rounds (round W) s 0 n
+pub rounds_are : (W : List ℕ) (s : State) (n : ℕ) → n ≤ 64 → fold keyed_round s (take n (keyed W)) ≡ rounds (round W) s 0 n
 rounds_are W s zero h = refl
 rounds_are W s (suc n) h =
     let X = keyed W in

@@ -1,13 +1,14 @@
--- Laws of the schedule, one step of a loop at a time.
-use Rattle.std.proofs.Common.{◌≡◌, ℕ, suc, ◌+◌, ◌-◌, ◌*◌, ◌<◌, ◌≤◌, List, [], ◌∷◌, ◌++◌, map, length, get_or, take, drop, set, sym, ap, ◌∙◌, zero-add, arith}
+-- Laws of the schedule and of the rounds, one step of a loop at a time.
+use Rattle.std.proofs.Common.{◌≡◌, ℕ, zero, suc, ◌+◌, ◌-◌, ◌*◌, ◌<◌, ◌≤◌, List, [], ◌∷◌, ◌++◌, map, length, get_or, take, drop, set, sym, ap, ◌∙◌, add-zero, add-suc, zero-add, arith}
 use Rattle.std.specs.List.{range_with_len}
 use Rattle.std.proofs.lemmas.List.{take_more_set, get_or-take, get_or-drop}
 use Rattle.std.proofs.lemmas.List.FromFn.{map-range_with_len_more}
 use Rattle.std.specs.Int.{w32, from_be_bytes}
 use Rattle.std.specs.Simd.{first_chunks}
 use Rattle.digest.proofs.Chunks.{chunk_at}
+use Rattle.sha256.specs.declared.state.State.{State}
 use Rattle.sha256.specs.Words.{word}
-use Rattle.sha256.specs.Sha256.{next_word, schedule}
+use Rattle.sha256.specs.Sha256.{next_word, schedule, rounds}
 
 -- a word that is read from chunk t of the block
 pub word_read : (block d : List ℕ) (n t : ℕ) → t < n → from_be_bytes w32 (get_or (first_chunks 4 n block) t d) ≡ word block t
@@ -52,3 +53,10 @@ schedule_more block w t x low h e p =
     p ∙ sym (next_word_take w t low) ∙ ap (λ (y : List ℕ). next_word y t) e ∙ ap (next_word (schedule block (t - 16))) back in
     take_more_set w t x h ∙ ap (λ (y : List ℕ). y ++ x ∷ []) e ∙ ap (λ (y : ℕ). schedule block (t - 16) ++ y ∷ []) made
     ∙ ap (schedule block) one
+
+-- rounds after rounds
+pub rounds_add : (step : State → ℕ → State) (s : State) (m n : ℕ) → rounds step (rounds step s 0 m) m n ≡ rounds step s 0 (m + n)
+rounds_add step s m zero = ap (rounds step s 0) (sym (add-zero m))
+rounds_add step s m (suc n) =
+    ap (λ (z : State). step z (m + n)) (rounds_add step s m n) ∙ ap (step (rounds step s 0 (m + n))) (sym (zero-add (m + n)))
+    ∙ ap (rounds step s 0) (sym (add-suc m n))
