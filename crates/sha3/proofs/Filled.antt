@@ -1,5 +1,5 @@
 -- A state that is filled lane by lane.
-use Rattle.std.proofs.Common.{◌≡◌, ℕ, ◌+◌, ◌*◌, ◌%◌, ◌<◌, ◌≢◌, inl, inr, List, length, get_or, set, sym, ◌∙◌, subst, arith, length-set}
+use Rattle.std.proofs.Common.{◌≡◌, ℕ, ◌+◌, ◌*◌, ◌%◌, ◌<◌, ◌≤◌, ◌≢◌, inl, inr, List, length, get_or, set, sym, ◌∙◌, subst, arith, length-set}
 use Rattle.std.proofs.lemmas.Bool.{cases_lt}
 use Rattle.std.proofs.lemmas.List.{get_or-set_other, get_or-set_same}
 use Rattle.sha3.specs.Keccak.{place}
@@ -26,3 +26,10 @@ filled_more Q b x y v p n held hx hy e here en = (
         rw value (rw (column, row) here)
   ],
 )
+
+-- what is not written yet is as it was
+pub unwritten_more : (a xs : List ℕ) (i v : ℕ) → ((k : ℕ) → i ≤ k → get_or xs k 0 ≡ get_or a k 0)
+    → (k : ℕ) → i + 1 ≤ k → get_or (set xs i v) k 0 ≡ get_or a k 0
+unwritten_more a xs i v same k h =
+    let other : k ≢ i = omega arith in
+    get_or-set_other xs i k v 0 other ∙ same k (omega arith)

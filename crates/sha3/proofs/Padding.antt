@@ -47,13 +47,19 @@ padding_set rest h =
     ∙ ap (λ (j : ℕ). rest ++ set (opened n) j (bit_or (get_or (opened n) j 0) 0x80)) last)
 
 -- the last block, as it is made from a copy of what is left of the message, and zeros
+pub last_from : (rest copy zeros : List ℕ) → length rest < 136 → copy ≡ rest → zeros ≡ replicate (136 - length rest) 0
+    → let xs : List ℕ = copy ++ zeros in
+    set (set xs (length rest) 0x06) 135 (bit_or (get_or (set xs (length rest) 0x06) 135 0) 0x80) ≡ rest ++ padding (length rest)
+last_from rest copy zeros h e f =
+    let n : ℕ = length rest in
+    ap (λ ys. set (set ys n 0x06) 135 (bit_or (get_or (set ys n 0x06) 135 0) 0x80)) (ap₂ ◌++◌ e f)
+    ∙ (ap (λ ys. set ys 135 (bit_or (get_or ys 135 0) 0x80)) (opened_set rest h) ∙ padding_set rest h)
+
+-- the same, where the zeros are those that the copy leaves of a block
 pub last_made : (rest copy : List ℕ) → length rest < 136 → copy ≡ rest
     → let xs : List ℕ = copy ++ drop (length rest) (replicate 136 0) in
     set (set xs (length rest) 0x06) 135 (bit_or (get_or (set xs (length rest) 0x06) 135 0) 0x80) ≡ rest ++ padding (length rest)
-last_made rest copy h e =
-    let n : ℕ = length rest in
-    ap (λ ys. set (set ys n 0x06) 135 (bit_or (get_or (set ys n 0x06) 135 0) 0x80)) (ap₂ ◌++◌ e (drop-replicate n 136 0))
-    ∙ (ap (λ ys. set ys 135 (bit_or (get_or ys 135 0) 0x80)) (opened_set rest h) ∙ padding_set rest h)
+last_made rest copy h e = last_from rest copy (drop (length rest) (replicate 136 0)) h e (drop-replicate (length rest) 136 0)
 
 -- the padded message's last block
 pub last_is : (message : List ℕ)

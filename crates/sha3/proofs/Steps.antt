@@ -61,6 +61,11 @@ unfolding π ρ
     let turned : lane offsets (u % 5) (v % 5) ≡ lane offsets x y = same_lane offsets (u % 5) (v % 5) x y column row in
     lane_lanes _ y (2 * x + 3 * y) ∙ (lane_lanes _ u v ∙ (cc))
 
+-- one round more
+pub rounds_more : (k : ℕ) (a : List ℕ) → rounds (k + 1) a ≡ Rnd k (rounds k a)
+unfolding rounds
+rounds_more k a = ap (λ n. rounds n a) (add-one k)
+
 -- a round, with its constant
 abbrev pub step : List ℕ → ℕ → List ℕ
 step a c = first_added c (χ (π (ρ (θ a))))
