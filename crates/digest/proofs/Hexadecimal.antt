@@ -1,9 +1,8 @@
 -- Hexadecimal text, byte after byte.
-use Rattle.std.proofs.Common.{◌≡◌, ℕ, ◌+◌, ◌-◌, ◌/◌, ◌%◌, ◌^◌, ◌<◌, List, [], ◌∷◌, ◌++◌, length, get_or, take, sym, refl, ap, ◌∙◌, Some, false}
-use Rattle.std.specs.Option.{option_map}
-use Rattle.std.specs.Fmt.{digits_output, format_spec, padded_integral, radix_digits, styled_digits_output}
-use Rattle.std.proofs.lemmas.Fmt.{hex_byte}
-use Rattle.std.proofs.lemmas.List.{take_more}
+use Rattle.std.proofs.Common.{◌≡◌, ℕ, ◌+◌, ◌/◌, ◌%◌, ◌<◌, List, [], ◌∷◌, ◌++◌, length, get_or, take, sym, refl, ap, ◌∙◌, ap₂}
+use lib.Utf8.{encode}
+use Rattle.std.proofs.lemmas.List.{take_more, append_assoc}
+use Rattle.std.proofs.lemmas.Str.Ascii.{encode_ascii}
 use Rattle.digest.specs.Text.{digit_of, hexadecimal}
 
 hexadecimal_append : (xs ys : List ℕ) → hexadecimal (xs ++ ys) ≡ hexadecimal xs ++ hexadecimal ys
@@ -15,11 +14,11 @@ pub hexadecimal_more : (xs : List ℕ) (i : ℕ) → i < length xs
     → hexadecimal (take i xs) ++ (digit_of (get_or xs i 0 / 16) ∷ digit_of (get_or xs i 0 % 16) ∷ []) ≡ hexadecimal (take (i + 1) xs)
 hexadecimal_more xs i h = sym (ap hexadecimal (take_more xs i 0 h) ∙ hexadecimal_append (take i xs) (get_or xs i 0 ∷ []))
 
--- what `{:02x}` writes of a byte: its two digits
-pub byte_digits : (b : ℕ) → b < 256 → (d : _) (s : _)
-    → digits_output d ≡ Some (radix_digits 16 false b) → s ≡ format_spec 32 0 4 2 (2 ^ 64 - 1)
-    → styled_digits_output d s ≡ Some (digit_of (b / 16) ∷ digit_of (b % 16) ∷ [])
-byte_digits b small d s digits plain =
-    ap (styled_digits_output d) plain
-    ∙ ap (option_map (padded_integral (format_spec 32 0 4 2 (2 ^ 64 - 1)) false [])) digits
-    ∙ ap Some (hex_byte false b small)
+-- the same, each digit as the text of one character
+pub written_more : (xs : List ℕ) (i high low : ℕ) → i < length xs → high ≡ digit_of (get_or xs i 0 / 16) → high < 128
+    → low ≡ digit_of (get_or xs i 0 % 16) → low < 128
+    → hexadecimal (take i xs) ++ encode high ++ encode low ≡ hexadecimal (take (i + 1) xs)
+written_more xs i high low h eh bh el bl =
+    ap₂ (λ ys zs. hexadecimal (take i xs) ++ ys ++ zs) (encode_ascii high bh ∙ ap (λ d. d ∷ []) eh) (encode_ascii low bl ∙ ap (λ d. d ∷ []) el)
+    ∙ append_assoc (hexadecimal (take i xs)) (digit_of (get_or xs i 0 / 16) ∷ []) (digit_of (get_or xs i 0 % 16) ∷ [])
+    ∙ hexadecimal_more xs i h
