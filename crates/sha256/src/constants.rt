@@ -16,6 +16,7 @@ pub(crate) const TABLE: [u32; 64] = [
 ];
 
 // The constant of round t, or none past the last round.
+#[tactic(auto, using(digest::proofs::Copied::copied_is, crate::proofs::Roots::rule), unfolding(crate::specs::Constants::K))]
 pub fn constant(t: usize) -> Option<u32>
     ensures value { result ≡ slice_get K t }
     ensures rule { Rule }
