@@ -9,6 +9,7 @@ pub(crate) fn left_part(n: usize) -> Option<usize>
     ensures value { result ≡ split_answer n }
     ensures parts { IfSome result (λ k. (2 ≤ n) × (k ≡ split n) × (1 ≤ k) × (k < n)) }
     ensures none { IfNone result (n < 2) }
+    ensures law { SplitLaw }
 {
     let last = n.checked_sub(1)?;
     Some(1 << last.checked_ilog2()?)

@@ -1,8 +1,14 @@
 use Rattle.std.proofs.Common.{◌≡◌, ℕ, ◌*◌, ◌%◌, ◌^◌, ltb, Some, ap, sym, ◌∙◌, arith}
 use Rattle.std.proofs.lemmas.Bool.{cond-true, lt-ltb}
 use Rattle.tree.specs.Split.{split}
-use Rattle.tree.proofs.Splits.{split_splits, top_bit}
+use Rattle.tree.proofs.Splits.{split_splits, split_law, top_bit}
 use Rattle.tree.proofs.parting.left_part.Goals as goal
+
+pub returns-in_err-last-clause-law : goal.returns-in_err-last-clause-law
+returns-in_err-last-clause-law c = split_law
+
+pub returns-in_err-checked_ilog2-clause-law : goal.returns-in_err-checked_ilog2-clause-law
+returns-in_err-checked_ilog2-clause-law c = split_law
 
 pub returns : goal.returns
 returns c =
@@ -15,4 +21,5 @@ returns c =
       value = ap Some is ∙ sym (cond-true (ltb 1 n) _ _ (lt-ltb 1 n (omega arith)));
       parts = (omega arith, is, omega (arith, is, s.1, s.2), omega (arith, is, s.1));
       none = tt;
+      law = split_law;
     }
