@@ -1,5 +1,6 @@
 // How two nodes become one: what the trees over a kind of node need, and no more.
 ghost use Rattle.std.specs.Prelude.{◌≡◌};
+ghost use Rattle.digest.specs.Messages.{round_message, calendar_message};
 
 use digest::{Calendar, Digest, Hash, Round, Tag, node};
 use std::marker::PhantomData;
@@ -32,7 +33,25 @@ impl<H: Hash, T: Tag> Joining for Nodes<H, T> {
 
     ghost joined = { λ left right. H.Hash.digested (T.Tag.message left right) };
 
-    fn join(left: &Digest, right: &Digest) -> Digest {
+    fn join(left: &Digest, right: &Digest) -> Digest
+        ensures value { result ≡ H.Hash.digested (T.Tag.message left.now right.now) }
+        ensures rounds { ⟦<RoundNodes<H> as Joining>⟧.joined ≡ (λ left right. H.Hash.digested (round_message left right)) }
+        ensures calendars { ⟦<CalendarNodes<H> as Joining>⟧.joined ≡ (λ left right. H.Hash.digested (calendar_message left right)) }
+    {
         node::<H, T>(left, right)
     }
+}
+
+// Two nodes of a round, joined.
+pub fn round_node<H: Hash>(left: &Digest, right: &Digest) -> Digest
+    ensures { result ≡ H.Hash.digested (round_message left.now right.now) }
+{
+    RoundNodes::<H>::join(left, right)
+}
+
+// Two nodes of the calendar, joined.
+pub fn calendar_node<H: Hash>(left: &Digest, right: &Digest) -> Digest
+    ensures { result ≡ H.Hash.digested (calendar_message left.now right.now) }
+{
+    CalendarNodes::<H>::join(left, right)
 }

@@ -13,7 +13,7 @@ mod shapes;
 pub use descent::{Sibling, Siblings};
 pub use following::follow;
 pub use group::{path, root};
-pub use joining::{CalendarNodes, Joining, Nodes, RoundNodes};
+pub use joining::{CalendarNodes, Joining, Nodes, RoundNodes, calendar_node, round_node};
 pub use link::{Link, Side, UnknownSide};
 pub use parting::split;
 pub use refusal::PathRefusal;
