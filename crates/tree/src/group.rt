@@ -12,6 +12,18 @@ use crate::parting::left_part;
 use crate::refusal::PathRefusal;
 use crate::shapes::sides_of;
 
+// The root over one node and more.
+fn root_over<J: Joining>(nodes: &[J::Node]) -> J::Node
+    requires { 1 ≤ length nodes.now }
+    ensures { root J.Joining.joined nodes.now ≡ Some result }
+{
+    let Some(middle) = left_part(nodes.len()) else {
+        return nodes[0];
+    };
+    let (left, right) = nodes.split_at(middle);
+    J::join(&root_over::<J>(left), &root_over::<J>(right))
+}
+
 // The root over a list of nodes; none over an empty list.
 pub fn root<J: Joining>(nodes: &[J::Node]) -> Option<J::Node>
     ensures value { result ≡ root J.Joining.joined nodes.now }
@@ -19,11 +31,7 @@ pub fn root<J: Joining>(nodes: &[J::Node]) -> Option<J::Node>
 {
     match nodes {
         [] => None,
-        [node] => Some(*node),
-        _ => {
-            let (left, right) = nodes.split_at(left_part(nodes.len())?);
-            Some(J::join(&root::<J>(left)?, &root::<J>(right)?))
-        }
+        _ => Some(root_over::<J>(nodes)),
     }
 }
 
@@ -35,7 +43,7 @@ fn link_to<J: Joining>(nodes: &[J::Node], sibling: Sibling) -> Link<J::Node>
 {
     Link {
         side: sibling.side,
-        sibling: root::<J>(&nodes[sibling.low..sibling.end]).unwrap(),
+        sibling: root_over::<J>(&nodes[sibling.low..sibling.end]),
     }
 }
 
