@@ -1,3 +1,4 @@
+pub mod SideTest
 pub mod Ways
 pub mod Splits
 pub mod Grown

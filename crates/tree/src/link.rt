@@ -1,9 +1,12 @@
 // One step of a path: where the sibling stands, and the sibling.
-ghost use Rattle.std.specs.Prelude.{◌≡◌, Decides};
+ghost use Rattle.std.specs.Prelude.{◌≡◌, ◌==◌, Decides};
 ghost use Rattle.tree.specs.Sides.{side_number, side_answer};
+ghost use Rattle.std.specs.Ordering.{on};
+ghost use Rattle.std.specs.Cmp.Rules.{comparing};
+ghost use Rattle.std.proofs.Common.{rules};
 
 // Where the sibling stands: right of the node, or left of it.
-#[derive(Clone, Copy, Debug, Default, Eq, PartialEq)]
+#[derive(Clone, Copy, Debug, Default)]
 pub enum Side {
     #[default]
     Right = 0,
@@ -22,12 +25,33 @@ impl Side {
         self as u8
     }
 
-    // Whether both are one side. The derived `==` answers the same, and no clause of it says so.
+    // Whether both are one side.
     pub fn is(self, other: Side) -> bool
         ensures { Decides result (self ≡ other) }
     {
         self == other
     }
+}
+
+// By hand, as a derived `==` has no clause of its own to cite.
+impl PartialEq for Side {
+    ghost eq = { on side_number ◌==◌ };
+
+    ghost laws = { Prim.search (comparing, rules) };
+
+    fn eq(&self, other: &Side) -> bool
+        ensures value { result ≡ on side_number ◌==◌ self.now other.now }
+        ensures exact { Decides result (self.now ≡ other.now) }
+    {
+        matches!(
+            (*self, *other),
+            (Side::Right, Side::Right) | (Side::Left, Side::Left)
+        )
+    }
+}
+
+impl Eq for Side {
+    ghost laws = { Prim.search (comparing, rules) };
 }
 
 impl TryFrom<u8> for Side {
