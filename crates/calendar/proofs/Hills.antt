@@ -1,6 +1,6 @@
 -- Trees that stand side by side, taken apart and joined.
 use Rattle.std.proofs.Common.{◌≡◌, reverse, ℕ, zero, suc, ◌+◌, ◌-◌, ◌*◌, ◌/◌, ◌%◌, ◌^◌, ◌<◌, ◌≤◌, List, [], ◌∷◌, ◌++◌, length, get_or, take, drop, w32, set, Some, sym, refl, ap, ◌∙◌, subst, arith, pow_pos}
-use Rattle.std.proofs.lemmas.List.{append_assoc, append-nil, reverse-append, length-append, length_push, length-take-le, take-take, take_at, drop_at, take_more, take_more_set}
+use Rattle.std.proofs.lemmas.List.{append_assoc, append-nil, reverse-append, length-append, length_push, length-take-le, take-take, take_at, drop_at, take_more, take_more_set, same_from_push}
 use Rattle.std.proofs.lemmas.Nat.Bits.{bit_at_lowest, bit_at-suc, bit_at-trailing_ones}
 use Rattle.std.specs.Int.{bit_at, trailing_ones}
 use Rattle.std.specs.List.{fold, reduce}
@@ -37,6 +37,17 @@ pub record Last {N : Type 0} (join : N → N → N) (h c : ℕ) (peaks nodes : L
   pub stands : Stands join (suc h) c before early
   pub perfect : Perfect join h late peak
   pub peaks_are : peaks ≡ before ++ peak ∷ []
+  pub nodes_are : nodes ≡ early ++ late
+
+-- trees of 2 ^ h nodes and more, the last of them with the root `peak`
+pub record Lowest {N : Type 0} (join : N → N → N) (h : ℕ) (before : List N) (peak : N) (nodes : List N) : Type 0 where
+  pub height : ℕ
+  pub count : ℕ
+  pub early : List N
+  pub late : List N
+  pub taller : h ≤ height
+  pub stands : Stands join (suc height) count before early
+  pub perfect : Perfect join height late peak
   pub nodes_are : nodes ≡ early ++ late
 
 -- a perfect tree put down behind the others: it is joined with the last `joins` of them, and is then the last
@@ -94,6 +105,40 @@ module _ {N : Type 0} (join : N → N → N) where
         nodes_are = q;
       }
 
+  pub last_tree : {h n : ℕ} {peaks nodes : List N} → Stands join h n peaks nodes → (before : List N) (y : N) → peaks ≡ before ++ y ∷ []
+      → Lowest join h before y nodes
+  last_tree bare before y e = absurd (nothing_pushed before y e)
+  last_tree (even c is above) before y e =
+      let l = last_tree above before y e in
+      record {
+        height = l.height;
+        count = l.count;
+        early = l.early;
+        late = l.late;
+        taller = omega (arith, l.taller);
+        stands = l.stands;
+        perfect = l.perfect;
+        nodes_are = l.nodes_are;
+      }
+  last_tree {h} (odd c others early late x is above perfect p q) before y e =
+      let same = same_from_push others before x y (sym p ∙ e) in
+      record {
+        height = h;
+        count = c;
+        early = early;
+        late = late;
+        taller = omega arith;
+        stands = subst (λ ps. Stands join (suc h) c ps early) same.0 above;
+        perfect = subst (λ z. Perfect join h late z) same.1 perfect;
+        nodes_are = q;
+      }
+
+  -- no trees over no nodes
+  pub no_trees : {h n : ℕ} {peaks nodes : List N} → Stands join h n peaks nodes → peaks ≡ [] → nodes ≡ []
+  no_trees bare e = refl
+  no_trees (even c is above) e = no_trees above e
+  no_trees (odd c before early late y is above perfect p q) e = absurd (nothing_pushed before y (sym e ∙ p))
+
   -- no more trees than digits
   pub few : {h n : ℕ} {peaks nodes : List N} → Stands join h n peaks nodes → (k : ℕ) → n < 2 ^ k → length peaks ≤ k
   few bare k b = omega arith
@@ -140,6 +185,11 @@ module _ {N : Type 0} (join : N → N → N) where
       }
 
   module _ (forest : Forest N) (nodes : List N) (holds : Holds join forest nodes) where
+    -- below 2 ^ 31 nodes leave room for one more tree
+    pub room : forest.count < 2 ^ 31 → forest.top < 32
+    room below =
+        omega (arith, few holds.3 31 below, length-take-le forest.top forest.peaks (omega (arith, holds.0, holds.1)), holds.1)
+
     module _ (below : forest.count < 2 ^ 31) (x : N) where
       last_joined : Fed join 0 forest.count (trailing_ones w32 forest.count) (take forest.top forest.peaks) (nodes ++ x ∷ []) x
       last_joined =
@@ -160,11 +210,6 @@ module _ {N : Type 0} (join : N → N → N) where
       pub enough : trailing_ones w32 forest.count ≤ forest.top
       enough = omega (arith, kept_many)
 
-      -- below 2 ^ 31 nodes leave room for one more tree
-      pub room : forest.top < 32
-      room =
-          omega (arith, few holds.3 31 below, length-take-le forest.top forest.peaks (omega (arith, holds.0, holds.1)), holds.1)
-
       pub fed_stands : (kept : ℕ) (y : N) → kept ≡ forest.top - trailing_ones w32 forest.count
           → y ≡ fold (λ peak last. join last peak) x (reverse (drop kept (take forest.top forest.peaks)))
           → Stands join 0 (forest.count + 1) (take (kept + 1) (set forest.peaks kept y)) (nodes ++ x ∷ [])
@@ -177,7 +222,7 @@ module _ {N : Type 0} (join : N → N → N) where
           let y_same : fold (λ peak last. join last peak) x (reverse last_joined.back) ≡ y =
           sym (y_is ∙ ap (λ ps. fold (λ peak last. join last peak) x (reverse ps)) back) in
           let peaks_same : last_joined.front ++ y ∷ [] ≡ take (kept + 1) (set forest.peaks kept y) =
-          sym (take_more_set forest.peaks kept y (omega (arith, room, kept_is, holds.0)) ∙ ap (λ ps. ps ++ y ∷ []) front) in
+          sym (take_more_set forest.peaks kept y (omega (arith, room below, kept_is, holds.0)) ∙ ap (λ ps. ps ++ y ∷ []) front) in
           subst (λ ps. Stands join 0 (forest.count + 1) ps (nodes ++ x ∷ [])) peaks_same
           (subst (λ z. Stands join 0 (forest.count + 1) (last_joined.front ++ z ∷ []) (nodes ++ x ∷ [])) y_same last_joined.stands)
 

@@ -20,7 +20,7 @@ loop-at-init g c =
 pub link_to-requires : goal.link_to-requires
 link_to-requires g c =
     let next = writing_next c.loop-at.invariant _ c.in-Some.sibling c.next.new.self c.in-Some.ensures.steps in
-    (next.0, omega (arith, next.1, c.requires.there.1), omega (arith, next.1, c.requires.there.2))
+    (omega (arith, next.0), omega (arith, next.1, c.requires.there.1), omega (arith, next.1, c.requires.there.2))
 
 pub loop-at-preserved : goal.loop-at-preserved
 loop-at-preserved g c =

@@ -12,12 +12,12 @@ overflow_sub-kept g c =
 pub listed : goal.listed
 listed g c =
     let sound = c.requires.sound in
-    omega (arith, room g.J.Joining.joined c.args.self.now sound.0 sound.1 c.requires.room c.args.node, sound.1.0)
+    omega (arith, room g.J.Joining.joined c.args.self.now sound.0 sound.1 c.requires.room, sound.1.0)
 
 pub bounds-self-kept : goal.bounds-self-kept
 bounds-self-kept g c =
     let sound = c.requires.sound in
-    omega (arith, room g.J.Joining.joined c.args.self.now sound.0 sound.1 c.requires.room c.args.node)
+    omega (arith, room g.J.Joining.joined c.args.self.now sound.0 sound.1 c.requires.room)
 
 pub returns : goal.returns
 returns g c xs holds =
@@ -25,7 +25,7 @@ returns g c xs holds =
     let forest = c.args.self.now in
     let kept = forest.top - c.trailing_ones.result in (
       length-set forest.peaks kept c.joined_onto.result ∙ holds.0,
-      omega (arith, room join forest xs holds c.requires.room c.args.node),
+      omega (arith, room join forest xs holds c.requires.room),
       omega (arith, holds.2, length_push xs c.args.node),
       fed_stands join forest xs holds c.requires.room c.args.node kept c.joined_onto.result
           (ap (λ ones. forest.top - ones) c.trailing_ones.ensures)
