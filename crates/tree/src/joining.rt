@@ -33,6 +33,7 @@ impl<H: Hash, T: Tag> Joining for Nodes<H, T> {
 
     ghost joined = { λ left right. H.Hash.digested (T.Tag.message left right) };
 
+    // The last two clauses say what the nodes of a round and of the calendar are joined by.
     fn join(left: &Digest, right: &Digest) -> Digest
         ensures value { result ≡ H.Hash.digested (T.Tag.message left.now right.now) }
         ensures rounds { ⟦<RoundNodes<H> as Joining>⟧.joined ≡ (λ left right. H.Hash.digested (round_message left right)) }
