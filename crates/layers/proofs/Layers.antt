@@ -1,6 +1,7 @@
 -- What holds of a layer of any kind, from what its kind's lowering is.
 use Rattle.std.proofs.Common.{◌≡◌, ℕ, ◌+◌, ◌<◌, ◌≤◌, min, ltb, refl, List, [], ◌∷◌, ◌++◌, length, get_or, take, Some, None, Ok, Option, sym, ap, ◌∙◌, inl, inr, arith}
 use Rattle.std.specs.List.{slice_get}
+use Rattle.std.specs.Option.{option_map}
 use Rattle.std.proofs.lemmas.List.{length-append, length-take, take_all, get_or_past, nil_from_length}
 use Rattle.std.proofs.lemmas.List.FromFn.{length-map-range_with_len, get_or-map-range_with_len}
 use Rattle.std.proofs.lemmas.Bool.{cond-true, cond-false, lt-ltb, le-ltb, cases_lt}
@@ -23,6 +24,25 @@ module _ (w : Lowering) (items : List Digest) (i : ℕ) (answer : Option Way) (i
         | inr past ↦
             let none = cond-false (ltb i (length items)) (Some (w.front items i)) None (le-ltb i (length items) past) in
             cc
+      ]
+
+module _ (w : Lowering) (items : List Digest) (i : ℕ) (answer : Option ℕ) (is : answer ≡ option_map length (front_answer w items i)) where
+  -- what an answer tells of the place, and of the links
+  pub links_there : (n : ℕ) → answer ≡ Some n → (i < length items) × (n ≡ length (w.front items i))
+  links_there n e =
+      elim (cases_lt i (length items)) [
+        | inl h ↦ let some = ap (option_map length) (front_is w items i h) in (h, cc)
+        | inr past ↦
+            let none = cond-false (ltb i (length items)) (Some (w.front items i)) None (le-ltb i (length items) past) in
+            let gone = ap (option_map length) none in
+            cc
+      ]
+
+  pub links_absent : answer ≡ None → length items ≤ i
+  links_absent e =
+      elim (cases_lt i (length items)) [
+        | inl h ↦ let some = ap (option_map length) (front_is w items i h) in cc
+        | inr past ↦ past
       ]
 
 module _ {width links : ℕ} {digested : List ℕ → Digest} {w : Lowering} (laws : Lowers width links digested w) where

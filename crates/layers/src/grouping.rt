@@ -9,8 +9,9 @@ ghost use Rattle.std.proofs.Common.{rules};
 
 use crate::kind::{Front, Items, Kind};
 use crate::layer::Layer;
+use arrayvec::ArrayVec;
 use digest::{Digest, Hash, empty_second};
-use pile::Pile;
+use pile::{CommitRefusal, Pile};
 use tree::{Link, RoundNodes};
 
 #[derive(Clone, Copy)]
@@ -74,16 +75,28 @@ impl Kind for Groups {
 
     ghost wide = { Prim.search rules };
 
-    fn lower<H: Hash>(&self, _second: u32, list: &Items) -> Items {
-        let mut roots = Items::new();
+    fn send<P: Pile>(
+        &self,
+        _second: u32,
+        list: &[Digest],
+        below: &mut P,
+    ) -> Result<(), CommitRefusal> {
+        let mut roots = ArrayVec::<Digest, 32>::new();
         // a loop, since `collect` and `extend` of an ArrayVec answer a Result, and this can't fail
         for part in list.chunks(Self::WIDTH) {
-            roots.push(group_root::<H>(part));
+            roots.push(group_root::<P::Digester>(part));
         }
-        roots
+        below.commit(&roots)
     }
 
     fn front<H: Hash>(&self, _second: u32, list: &Items, place: usize) -> Option<Front> {
         group_path::<H>(list, place)
+    }
+
+    fn links_of(&self, list: &Items, place: usize) -> Option<u8> {
+        if place >= list.len() {
+            return None;
+        }
+        Some(tree::sides_of(group_of(list, place).len(), place % 8) as u8)
     }
 }

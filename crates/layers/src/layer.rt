@@ -1,5 +1,5 @@
 // A layer over a pile, of any kind: it keeps the list of the last round, at most 256 digests, and sends down what its kind makes of it.
-ghost use Rattle.std.specs.Prelude.{◌≡◌, ℕ, List, [], length};
+ghost use Rattle.std.specs.Prelude.{◌≡◌, ℕ, ◌≤◌, List, [], length};
 ghost use Rattle.digest.specs.declared.value.Digest.{Digest};
 ghost use Rattle.layers.specs.Layered.{Lowers, layered_meaning, layered_seal};
 
@@ -36,6 +36,15 @@ impl<P, K: Kind> Layer<P, K> {
     }
 }
 
+// Keeps these digests in the place of the others.
+fn keep(list: &mut Items, items: &[Digest])
+    requires { length items.now ≤ 256 }
+    ensures { list.new.items ≡ items.now }
+{
+    list.clear();
+    list.try_extend_from_slice(items).unwrap();
+}
+
 impl<P: Pile, K: Kind> Pile for Layer<P, K> {
     type Digester = P::Digester;
 
@@ -46,7 +55,6 @@ impl<P: Pile, K: Kind> Pile for Layer<P, K> {
         layered_seal w items (P.Pile.seal p.below (w.lowered items)) };
 
     fn commit(&mut self, list: &[Digest]) -> Result<(), CommitRefusal> {
-        let list = Items::try_from(list).map_err(|_| CommitRefusal::TooMany)?;
         if list.len() > self.most() {
             return Err(CommitRefusal::TooMany);
         }
@@ -54,10 +62,9 @@ impl<P: Pile, K: Kind> Pile for Layer<P, K> {
         if second >= self.below.span() {
             return Err(CommitRefusal::Full);
         }
-        let lowered = self.kind.lower::<P::Digester>(second, &list);
-        self.below.commit(&lowered)?;
+        self.kind.send(second, list, &mut self.below)?;
         self.second = second;
-        self.list = list;
+        keep(&mut self.list, list);
         Ok(())
     }
 
@@ -70,11 +77,9 @@ impl<P: Pile, K: Kind> Pile for Layer<P, K> {
     }
 
     fn way_length(&self, place: usize) -> Option<u8> {
-        let front = self
-            .kind
-            .front::<P::Digester>(self.second, &self.list, place)?;
+        let own = self.kind.links_of(&self.list, place)?;
         let rest = self.below.way_length(place / K::WIDTH)?;
-        Some(rest.saturating_add(front.len() as u8))
+        Some(rest.saturating_add(own))
     }
 
     fn way(&self, place: usize, links: &mut [Link<Digest>]) -> Result<usize, WayRefusal> {

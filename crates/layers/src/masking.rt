@@ -6,8 +6,9 @@ ghost use Rattle.std.proofs.Common.{rules};
 
 use crate::kind::{Front, Items, Kind};
 use crate::layer::Layer;
+use arrayvec::ArrayVec;
 use digest::{Digest, Hash, Round, Seed, mask, node};
-use pile::Pile;
+use pile::{CommitRefusal, Pile};
 use tree::{Link, Side};
 
 #[derive(Clone, Copy)]
@@ -43,14 +44,19 @@ impl Kind for Masks {
 
     ghost wide = { Prim.search rules };
 
-    fn lower<H: Hash>(&self, second: u32, list: &Items) -> Items {
-        let mut hidden = Items::new();
+    fn send<P: Pile>(
+        &self,
+        second: u32,
+        list: &[Digest],
+        below: &mut P,
+    ) -> Result<(), CommitRefusal> {
+        let mut hidden = ArrayVec::<Digest, 256>::new();
         // a loop, since `collect` and `extend` of an ArrayVec answer a Result, and this can't fail
         for (place, item) in list.iter().enumerate() {
-            let over = mask::<H>(&self.seed, second, place as u16);
-            hidden.push(node::<H, Round>(&over, item));
+            let over = mask::<P::Digester>(&self.seed, second, place as u16);
+            hidden.push(node::<P::Digester, Round>(&over, item));
         }
-        hidden
+        below.commit(&hidden)
     }
 
     fn front<H: Hash>(&self, second: u32, list: &Items, place: usize) -> Option<Front> {
@@ -61,5 +67,9 @@ impl Kind for Masks {
             sibling: mask::<H>(&self.seed, second, place as u16),
         });
         Some(front)
+    }
+
+    fn links_of(&self, list: &Items, place: usize) -> Option<u8> {
+        (place < list.len()).then_some(Self::LINKS)
     }
 }

@@ -2,13 +2,21 @@
 use Rattle.std.proofs.Common.{◌≡◌, ℕ, ◌<◌, ◌≤◌, List, [], length, get_or, Some, None, Ok, Err, arith}
 use Rattle.std.proofs.lemmas.Bool.Decides.{nat_tests}
 use Rattle.digest.specs.declared.value.Digest.{Digest}
+use Rattle.pile.specs.declared.refusal.CommitRefusal.TheVariants.{TooMany, Full}
 use Rattle.pile.specs.declared.refusal.WayRefusal.{WayRefusal}
 use Rattle.pile.specs.declared.refusal.WayRefusal.TheVariants.{Absent, Short}
 use Rattle.pile.specs.Meaning.{Meaning}
 use Rattle.pile.specs.Answers.{commit_answer, told, way_length, way_answer}
 
-pub served : (m : Meaning) (items : List Digest) → length items ≤ m.most → length m.row < m.span → commit_answer m items ≡ Ok tt
-served m items h k = grind (arith, nat_tests)
+module _ (m : Meaning) (items : List Digest) where
+  pub too_many : m.most < length items → commit_answer m items ≡ Err TooMany
+  too_many h = grind (arith, nat_tests)
+
+  pub full : length items ≤ m.most → m.span ≤ length m.row → commit_answer m items ≡ Err Full
+  full h k = grind (arith, nat_tests)
+
+  pub served : length items ≤ m.most → length m.row < m.span → commit_answer m items ≡ Ok tt
+  served h k = grind (arith, nat_tests)
 
 module _ (m : Meaning) (place : ℕ) where
   pub length_there : place < length m.round → way_length m place ≡ Some (told (length (get_or m.ways place [])))

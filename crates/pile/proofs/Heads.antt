@@ -1,11 +1,9 @@
 -- The head's ways, which have no links, and the digest of an empty second.
-use Rattle.std.proofs.Common.{◌≡◌, ℕ, zero, suc, ◌-◌, ◌≤◌, List, [], ◌∷◌, ◌++◌, length, get_or, Some, Ok, refl, ap, ◌∙◌, arith}
-use Rattle.std.specs.List.{slice_get}
-use Rattle.std.proofs.lemmas.List.{get_or_push, length_push}
-use Rattle.std.proofs.lemmas.Option.{slice_get-get_or}
+use Rattle.std.proofs.Common.{◌≡◌, ℕ, zero, suc, ◌≤◌, List, [], ◌∷◌, length, get_or, Some, Ok, refl, ap, ◌∙◌, arith}
 use Rattle.digest.specs.declared.value.Digest.{Digest}
 use Rattle.pile.specs.Meaning.{Meaning, EmptyLaw}
 use Rattle.pile.specs.Answers.{committed}
+use Rattle.pile.proofs.Lasts.{nth_last}
 use Rattle.pile.specs.Head.{no_ways, head_digest, head_seal}
 
 -- no way has a link
@@ -16,14 +14,6 @@ no_way (item ∷ items) (suc i) = no_way items i
 
 pub short : (items : List Digest) (i : ℕ) → length (get_or (no_ways items) i []) ≤ 0
 short items i = omega (arith, ap length (no_way items i))
-
--- the last digest of a row that has gained one
-nth_last : (row : List Digest) (digest : Digest) → slice_get (row ++ digest ∷ []) (length (row ++ digest ∷ []) - 1) ≡ Some digest
-nth_last row digest =
-    let size : length (row ++ digest ∷ []) - 1 ≡ length row = omega (arith, length_push row digest) in
-    ap (slice_get (row ++ digest ∷ [])) size
-    ∙ (slice_get-get_or (row ++ digest ∷ []) (length row) digest (omega (arith, length_push row digest))
-    ∙ ap Some (get_or_push row digest digest (length row) refl))
 
 pub head_empty : (digested : List ℕ → Digest) (m : Meaning) (items : List Digest)
     → EmptyLaw digested (committed m items (head_seal digested items) (Ok tt))

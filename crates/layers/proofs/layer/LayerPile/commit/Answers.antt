@@ -1,4 +1,4 @@
-use Rattle.std.proofs.Common.{◌≡◌, ℕ, List, length, Ok, sym, ap, ◌∙◌, subst, arith, rules}
+use Rattle.std.proofs.Common.{◌≡◌, ℕ, List, Ok, sym, ap, ◌∙◌, subst, arith, rules}
 use Rattle.digest.specs.declared.value.Digest.{Digest}
 use Rattle.pile.specs.Meaning.{Meaning, Law, EmptyLaw}
 use Rattle.pile.specs.Answers.{committed}
@@ -18,17 +18,14 @@ returns g c =
     let m : Meaning = g.P.Pile.meaning p.below in
     let before = g.K.Kind.lowering p.kind digested p.second in
     let seal = g.P.Pile.seal p.below in
-    let next : Meaning = g.P.Pile.meaning c.commit.new.self in
-    let down : List Digest = c.deref.result.now in
-    let same : c.in_ok-list.list.items ≡ items = search rules in
-    let lower : down ≡ w.lowered items = c.deref.ensures.0 ∙ (c.lower-lowered.ensures ∙ ap w.lowered same) in
+    let next : Meaning = g.P.Pile.meaning c.send.new.below in
     let below : next ≡ committed m (w.lowered items) (seal (w.lowered items)) (Ok tt) =
-    c.commit.ensures.after
-    ∙ (ap (committed m down (seal down)) c.in_ok-commit.was ∙ ap (λ xs. committed m xs (seal xs) (Ok tt)) lower) in
+    c.send.ensures.after ∙ ap (committed m (w.lowered items) (seal (w.lowered items))) c.in_ok-send.was in
+    let same : c.keep.new.list.items ≡ items = search rules in
     let kept = ap (λ xs. layered_meaning w xs next) same in
     let round : next.round ≡ w.lowered items = ap (λ (x : Meaning). x.round) below in
     record {
-      outcome = sym (served (layered_meaning before p.list.items m) items (omega (arith, ap length same)) (omega arith));
+      outcome = sym (served (layered_meaning before p.list.items m) items (omega arith) (omega arith));
       after =
           kept
           ∙ (ap (layered_meaning w items) below
@@ -38,6 +35,6 @@ returns g c =
           let v = g.K.Kind.lowering p.kind digested s in
           committed (layered_meaning before p.list.items m) items (layered_seal v items (seal (v.lowered items))) (Ok tt))
           c.seconds-second.ensures.value));
-      law = λ _. subst (Law digested) (sym kept) (layered_law laws next items round (c.commit.ensures.law c.in_ok-commit.was));
-      empty = λ _. subst (EmptyLaw digested) (sym kept) (layered_empty laws next items round (c.commit.ensures.empty c.in_ok-commit.was));
+      law = λ _. subst (Law digested) (sym kept) (layered_law laws next items round (c.send.ensures.law c.in_ok-send.was));
+      empty = λ _. subst (EmptyLaw digested) (sym kept) (layered_empty laws next items round (c.send.ensures.empty c.in_ok-send.was));
     }
