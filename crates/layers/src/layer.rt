@@ -1,5 +1,5 @@
 // A layer over a pile, of any kind: it keeps the list of the last round, at most 256 digests, and sends down what its kind makes of it.
-ghost use Rattle.std.specs.Prelude.{◌≡◌, ℕ, ◌≤◌, List, [], length};
+ghost use Rattle.std.specs.Prelude.{◌≡◌, ℕ, ◌/◌, ◌≤◌, List, [], length};
 ghost use Rattle.digest.specs.declared.value.Digest.{Digest};
 ghost use Rattle.layers.specs.Layered.{Lowers, layered_meaning, layered_seal};
 
@@ -33,6 +33,13 @@ impl<P, K: Kind> Layer<P, K> {
             second: 0,
             list: Items::new(),
         }
+    }
+
+    // The place below of what goes down for an item.
+    fn spot(&self, place: usize) -> usize
+        ensures { result ≡ place / K.WIDTH }
+    {
+        place / K::WIDTH
     }
 }
 
@@ -78,7 +85,7 @@ impl<P: Pile, K: Kind> Pile for Layer<P, K> {
 
     fn way_length(&self, place: usize) -> Option<u8> {
         let own = self.kind.links_of(&self.list, place)?;
-        let rest = self.below.way_length(place / K::WIDTH)?;
+        let rest = self.below.way_length(self.spot(place))?;
         Some(rest.saturating_add(own))
     }
 
@@ -87,7 +94,7 @@ impl<P: Pile, K: Kind> Pile for Layer<P, K> {
             .kind
             .front::<P::Digester>(self.second, &self.list, place)
             .ok_or(WayRefusal::Absent)?;
-        behind(&self.below, place / K::WIDTH, &front, links)
+        behind(&self.below, self.spot(place), &front, links)
     }
 
     fn most(&self) -> usize {

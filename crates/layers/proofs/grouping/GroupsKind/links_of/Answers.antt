@@ -1,5 +1,4 @@
-use Rattle.std.proofs.Common.{◌≡◌, ℕ, ◌/◌, ◌%◌, ◌<◌, List, length, Some, sym, ap, ◌∙◌, arith}
-use Rattle.std.specs.Option.{option_map}
+use Rattle.std.proofs.Common.{◌≡◌, ℕ, ◌/◌, ◌%◌, ◌<◌, List, length, arith}
 use Rattle.digest.specs.declared.value.Digest.{Digest}
 use Rattle.tree.specs.Trees.{shape}
 use Rattle.layers.specs.Grouping.{group, grouping}
@@ -23,5 +22,4 @@ returns c =
     let inside : place < length items = omega (arith, c.len.ensures.value) in
     let same = sides items c.deref.result.now c.group_of.result.now place c.sides_of.result c.deref.ensures.0 c.group_of.ensures c.sides_of.ensures in
     λ digested second.
-    ap Some (same ∙ sym (path_length digested items place inside))
-    ∙ sym (ap (option_map length) (front_is (grouping digested) items place inside))
+    grind (arith, same, shape_three items place, path_length digested items place inside, front_is (grouping digested) items place inside)

@@ -1,10 +1,10 @@
-use Rattle.std.proofs.Common.{◌≡◌, ℕ, min, List, [], ◌∷◌, ◌++◌, length, sym, ap, ◌∙◌, subst, arith}
+use Rattle.std.proofs.Common.{◌≡◌, ℕ, min, List, [], ◌∷◌, ◌++◌, length, sym, ap, ◌∙◌, subst, arith, rules}
 use Rattle.std.specs.Slice.Iter.{chunks_rest}
 use Rattle.std.proofs.lemmas.Grind.{common_steps}
 use Rattle.digest.specs.declared.value.Digest.{Digest}
 use Rattle.pile.specs.Meaning.{Meaning}
 use Rattle.pile.specs.Answers.{commit_answer, committed}
-use Rattle.layers.specs.Grouping.{group_roots}
+use Rattle.layers.specs.Grouping.{group_root, group_roots}
 use Rattle.layers.proofs.Eights.{RootsSoFar, roots_more, roots_all}
 use Rattle.layers.proofs.grouping.GroupsKind.send.Goals as goal
 
@@ -17,6 +17,7 @@ loop-part-preserved g c =
     let left : List Digest = chunks_rest c.next.new.self in
     let far = c.loop-part.invariant in
     let steps = c.in-Some.ensures.steps in
+    let root : c.group_root.result ≡ group_root digested c.in-Some.part.now = search (rules, common_steps) in
     let size = steps.1.1 ∙ ap (λ (n : ℕ). min n (length rest)) far.size in
     record {
       can = omega (arith, steps.0, far.size);
@@ -24,7 +25,7 @@ loop-part-preserved g c =
       size = steps.0 ∙ far.size;
       short = far.short;
       so =
-          subst (λ xs. RootsSoFar digested items xs left) (sym (c.push.ensures.items ∙ ap (λ x. roots ++ x ∷ []) c.group_root.ensures))
+          subst (λ xs. RootsSoFar digested items xs left) (sym (c.push.ensures.items ∙ ap (λ x. roots ++ x ∷ []) root))
           (roots_more digested items roots rest c.in-Some.part.now left far.so steps.1.0 size steps.1.2);
     }
 

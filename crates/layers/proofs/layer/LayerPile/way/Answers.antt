@@ -1,4 +1,4 @@
-use Rattle.std.proofs.Common.{◌≡◌, ℕ, ◌/◌, length, sym, ap, ◌∙◌}
+use Rattle.std.proofs.Common.{◌≡◌, ℕ, length, ap, ◌∙◌, arith}
 use Rattle.std.specs.Option.{option_map}
 use Rattle.std.specs.Result.{result_ok}
 use Rattle.pile.specs.Meaning.{Meaning, Way}
@@ -19,16 +19,16 @@ returns g c =
     let some = c.ok_or.ensures.ok_part ∙ ap result_ok c.in_ok-front.was in
     let there = front_there w p.list.items place (option_map (λ v. v.items) c.front.result) c.front.ensures c.in_ok-front.front.items (ap (option_map (λ v. v.items)) some) in
     let over = layered_over laws p.list.items m place there.0 in
-    let spot : place / c.WIDTH.result ≡ w.spot place = ap (λ n. place / n) c.WIDTH.ensures ∙ sym (laws.spots place) in
+    let spot : c.spot.result ≡ w.spot place = grind (arith, c.spot.ensures, laws.spots place) in
     let front : c.deref.result.now ≡ w.front p.list.items place = c.deref.ensures.0 ∙ there.1 in
     let answer = c.behind.ensures.outcome
-    ∙ (ap (λ ws. behind_answer m ws (place / c.WIDTH.result) (length links)) front
+    ∙ (ap (λ ws. behind_answer m ws (c.spot.result) (length links)) front
     ∙ ap (λ s. behind_answer m (w.front p.list.items place) s (length links)) spot) in
     record {
       outcome = answer ∙ same_answer over (length links);
       after =
           c.behind.ensures.after
-          ∙ (ap (λ ws. behind_written m ws (place / c.WIDTH.result) links c.behind.result) front
+          ∙ (ap (λ ws. behind_written m ws (c.spot.result) links c.behind.result) front
           ∙ (ap (λ s. behind_written m (w.front p.list.items place) s links c.behind.result) spot
           ∙ same_written over links c.behind.result answer));
     }

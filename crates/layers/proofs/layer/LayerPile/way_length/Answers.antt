@@ -1,4 +1,4 @@
-use Rattle.std.proofs.Common.{◌≡◌, ℕ, ◌+◌, ◌/◌, min, length, Some, sym, ap, ◌∙◌, arith}
+use Rattle.std.proofs.Common.{◌≡◌, ℕ, ◌+◌, min, length, Some, sym, ap, ◌∙◌, arith}
 use Rattle.std.proofs.lemmas.List.{length-take}
 use Rattle.pile.specs.Meaning.{Meaning}
 use Rattle.pile.specs.Answers.{way_length}
@@ -18,7 +18,7 @@ returns g c =
     let m : Meaning = g.P.Pile.meaning p.below in
     let own : ℕ = c.in_ok-own.own in
     let there = links_there w p.list.items place c.links_of.result (c.links_of.ensures digested p.second) own c.in_ok-own.was in
-    let spot : place / c.WIDTH.result ≡ w.spot place = ap (λ n. place / n) c.WIDTH.ensures ∙ sym (laws.spots place) in
+    let spot : c.spot.result ≡ w.spot place = grind (arith, c.spot.ensures, laws.spots place) in
     let rest : way_length m (w.spot place) ≡ Some c.in_ok-rest.rest =
     ap (way_length m) (sym spot) ∙ (sym c.way_length.ensures ∙ c.in_ok-rest.was) in
     let sum : c.saturating_add.result ≡ min (c.in_ok-rest.rest + length (w.front p.list.items place)) 255 = omega (arith, c.saturating_add.ensures, there.1) in
