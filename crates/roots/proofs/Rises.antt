@@ -1,8 +1,13 @@
 -- Seconds that rise strictly, and the test of them.
-use Rattle.std.proofs.Common.{◌≡◌, ℕ, zero, suc, ◌+◌, ◌^◌, ◌<◌, ◌≤◌, Bool, true, false, ◌&&◌, ltb, leb, List, [], ◌∷◌, map, length, get_or, sym, refl, ap, subst, ◌∙◌, inl, inr, arith}
-use Rattle.std.specs.List.{list_all, AllAdjacentBelow, IsAllAdjacentAnswer}
-use Rattle.std.proofs.lemmas.List.{length-map, get_or-map}
-use Rattle.std.proofs.lemmas.Bool.{cases_Bool, and_from, and_parts, le-leb, lt-ltb, leb-true, ltb-true, ltb-false}
+use Rattle.std.proofs.Common.{◌≡◌, ℕ, zero, suc, ◌+◌, ◌^◌, ◌<◌, ◌≤◌, Bool, true, false, ◌&&◌, cond, ltb, leb, ◌⊎◌, List, [], ◌∷◌, ◌++◌, map, length, get_or, drop, Option, Some, None, is_some, MatchOption, sym, refl, ap, subst, ◌∙◌, inl, inr, arith}
+use denote.Param.Members.{Mut, Called}
+use Rattle.std.specs.Iterator.{Yields, YieldsThen}
+use Rattle.std.specs.List.{FoldsTo}
+use Rattle.std.proofs.lemmas.Iterator.{YieldsList}
+use Rattle.std.proofs.lemmas.Iterator.Consumers.{YieldsList-so_far, YieldsList-turn, YieldsList-end}
+use Rattle.std.proofs.lemmas.List.{drop_more, drop_all, drop-map, length-map, get_or-map, take-append-drop}
+use Rattle.std.proofs.lemmas.Option.{none-some}
+use Rattle.std.proofs.lemmas.Bool.{and_parts, and_left, and_right, le-leb, lt-leb, lt-ltb, le-ltb, leb-true, leb-false, ltb-true, ltb-false}
 use Rattle.roots.specs.Entries.{rising}
 use Rattle.roots.specs.Laws.{RisingLaw}
 
@@ -13,11 +18,44 @@ module _ (low second : ℕ) (later : List ℕ) where
       ap (λ b. b && (ltb second (2 ^ 31) && rising (second + 1) later)) (le-leb low second h)
       ∙ ap (λ b. b && rising (second + 1) later) (lt-ltb second (2 ^ 31) k)
 
+  rising_below : second < low → rising low (second ∷ later) ≡ false
+  rising_below h = and_left (leb low second) (ltb second (2 ^ 31) && rising (second + 1) later) (lt-leb low second h)
+
+  rising_beyond : 2 ^ 31 ≤ second → rising low (second ∷ later) ≡ false
+  rising_beyond h =
+      and_right (leb low second) (ltb second (2 ^ 31) && rising (second + 1) later)
+      (and_left (ltb second (2 ^ 31)) (rising (second + 1) later) (le-ltb second (2 ^ 31) h))
+
   pub rising_parts : rising low (second ∷ later) ≡ true → (low ≤ second) × (second < 2 ^ 31) × (rising (second + 1) later ≡ true)
   rising_parts e =
       let p = and_parts (leb low second) (ltb second (2 ^ 31) && rising (second + 1) later) e in
       let q = and_parts (ltb second (2 ^ 31)) (rising (second + 1) later) p.1 in
       (leb-true low second p.0, ltb-true second (2 ^ 31) q.0, q.1)
+
+-- the test, from a place on in what has the seconds
+module _ {X : Type 0} (second-of : X → ℕ) (items : List X) (i low : ℕ) where
+  pub ends : length items ≤ i → rising low (drop i (map second-of items)) ≡ true
+  ends h = ap (rising low) (drop_all i (map second-of items) (omega (arith, length-map items second-of)))
+
+  module _ (item : X) (second : ℕ) (here : i < length items) (at : item ≡ get_or items i item) (is : second ≡ second-of item) where
+    later : List ℕ
+    later = drop (i + 1) (map second-of items)
+
+    opened : rising low (drop i (map second-of items)) ≡ rising low (second ∷ later)
+    unfolding later
+    opened =
+        let value : get_or (map second-of items) i 0 ≡ second = get_or-map second-of items i item 0 here ∙ ap second-of (sym at) ∙ sym is in
+        ap (rising low) (drop_more (map second-of items) i 0 (omega (arith, length-map items second-of)) ∙ ap (λ s. s ∷ drop (i + 1) (map second-of items)) value)
+
+    pub goes_on : low ≤ second → second < 2 ^ 31 → rising (second + 1) (drop (i + 1) (map second-of items)) ≡ rising low (drop i (map second-of items))
+    unfolding later
+    goes_on h k = sym (opened ∙ rising_more low second later h k)
+
+    pub stops_below : second < low → rising low (drop i (map second-of items)) ≡ false
+    stops_below h = opened ∙ rising_below low second later h
+
+    pub stops_beyond : 2 ^ 31 ≤ second → rising low (drop i (map second-of items)) ≡ false
+    stops_beyond h = opened ∙ rising_beyond low second later h
 
 -- what the test says of each second
 pub at_least : (low : ℕ) (seconds : List ℕ) → rising low seconds ≡ true → (k : ℕ) → k < length seconds → low ≤ get_or seconds k 0
@@ -50,61 +88,81 @@ rises_from low (s ∷ later) least order bound =
     ∙ rises_from (s + 1) later (λ k h. omega (arith, order 0 (suc k) (omega arith) (omega arith)))
     (λ i j h k. order (suc i) (suc j) (omega arith) (omega arith)) (λ i h. bound (suc i) (omega arith))
 
--- the test by neighbours and by each second
-module _ {X : Type 0} (second_of : X → ℕ) where
-  abbrev pub earlier : X → X → Bool
-  earlier a b = ltb (second_of a) (second_of b)
+-- the test, by a fold that goes on from each second to those after it
+abbrev pub next : ℕ → ℕ → Option ℕ
+next low second = cond (leb low second && ltb second (2 ^ 31)) (Some (second + 1)) None
 
-  abbrev pub in_time : X → Bool
-  in_time item = ltb (second_of item) (2 ^ 31)
+went_on : (a b : Bool) (n m : ℕ) → cond (a && b) (Some n) None ≡ Some m → (a ≡ true) × (b ≡ true) × (m ≡ n)
+went_on true true n m e = (refl, refl, cc)
+went_on true false n m e = absurd (none-some m e)
+went_on false b n m e = absurd (none-some m e)
 
-  next : (x : X) (later : List X) (k : ℕ) (d : X) → true ≡ earlier (get_or (x ∷ later) (suc k) d) (get_or (x ∷ later) (suc k + 1) d)
-      → true ≡ earlier (get_or later k d) (get_or later (k + 1) d)
-  next x later k d e =
-      let step : suc k + 1 ≡ suc (k + 1) = omega arith in
-      subst (λ n. true ≡ earlier (get_or later k d) (get_or (x ∷ later) n d)) step e
+broke_off : (a b : Bool) (n : ℕ) → cond (a && b) (Some n) None ≡ None → (a ≡ false) ⊎ (b ≡ false)
+broke_off true true n e = absurd (none-some n (sym e))
+broke_off true false n e = inr refl
+broke_off false b n e = inl refl
 
-  rises_by : (low : ℕ) (items : List X) → ((d : X) → 0 < length items → low ≤ second_of (get_or items 0 d))
-      → AllAdjacentBelow (λ a b. true ≡ earlier a b) items (length items) → list_all in_time items ≡ true
-      → rising low (map second_of items) ≡ true
-  rises_by low [] least order bound = refl
-  rises_by low (x ∷ later) least order bound =
-      let p = and_parts (in_time x) (list_all in_time later) bound in
-      rising_more low (second_of x) (map second_of later) (least x (omega arith)) (ltb-true _ _ p.0)
-      ∙ rises_by (second_of x + 1) later (λ d h. omega (arith, ltb-true _ _ (sym (order 0 d (omega arith))))) (λ k d h. next x later k d (order (suc k) d (omega arith))) p.1
+-- a call that answered the second that may follow
+abbrev pub Turn : {A F : Type 0} → Mut F (ℕ × (A × Unit {0})) (Option ℕ) → F × ℕ → A → F × ℕ → Type 0
+Turn g p x q = (v : Option ℕ) × Called g p.0 (p.1, (x, tt)) v q.0 × (v ≡ Some q.1)
 
-  timely : (low : ℕ) (items : List X) → rising low (map second_of items) ≡ true → list_all in_time items ≡ true
-  timely low [] e = refl
-  timely low (x ∷ later) e =
-      let p = rising_parts low (second_of x) (map second_of later) e in
-      and_from _ _ (lt-ltb _ _ p.1) (timely (second_of x + 1) later p.2)
-
-  unordered : (items : List X) (k : ℕ) → k + 1 < length items
-      → ((d : X) → false ≡ earlier (get_or items k d) (get_or items (k + 1) d)) → rising 0 (map second_of items) ≡ true → ⊥
-  unordered [] k h f e = omega arith
-  unordered (x ∷ later) k h f e =
-      let items : List X = x ∷ later in
-      omega (
-        arith,
-        strictly 0 (map second_of items) e k (k + 1) (omega arith) (omega (arith, length-map items second_of)),
-        get_or-map second_of items k x 0 (omega arith),
-        get_or-map second_of items (k + 1) x 0 h,
-        ltb-false _ _ (sym (f x)),
+module _ {A F X : Type 0} (second-of : X → ℕ) (shown : A → X) (g : Mut F (ℕ × (A × Unit {0})) (Option ℕ)) (f : F)
+    (calls : (low : ℕ) (x : A) (v : Option ℕ) (q : F) → low ≤ 2 ^ 31 → Called g f (low, (x, tt)) v q → (q ≡ f) × (v ≡ next low (second-of (shown x)))) where
+  -- the test of all that the fold went through and of the rest is that of the rest alone
+  gone : (xs : List A) (low : ℕ) (q : F) (a : ℕ) → low ≤ 2 ^ 31 → FoldsTo {P = F × ℕ} (Turn g) (f, low) xs (q, a)
+      → (q ≡ f) × (a ≤ 2 ^ 31) × ((rest : List X) → rising low (map second-of (map shown xs ++ rest)) ≡ rising a (map second-of rest))
+  gone [] low q a small e = (
+    sym (ap (λ (p : F × ℕ). p.0) e),
+    (let same : low ≡ a = ap (λ (p : F × ℕ). p.1) e in omega (arith, same)),
+    λ rest. ap (λ (p : F × ℕ). rising p.1 (map second-of rest)) e,
+  )
+  gone (x ∷ xs) low q a small c =
+      let second = second-of (shown x) in
+      let call = calls low x c.1.0 c.0.0 small c.1.1 in
+      let went = went_on (leb low second) (ltb second (2 ^ 31)) (second + 1) c.0.1 (sym call.1 ∙ c.1.2) in
+      let turns : FoldsTo {P = F × ℕ} (Turn g) (f, c.0.1) xs (q, a) =
+      subst (λ (v : F × ℕ). FoldsTo {P = F × ℕ} (Turn g) v xs (q, a)) {x = c.0} {y = (f, c.0.1)} (λ i. (call.0 i, c.0.1)) c.2 in
+      let more = gone xs c.0.1 q a (omega (arith, went.2, ltb-true second (2 ^ 31) went.1)) turns in (
+        more.0,
+        more.1,
+        λ rest.
+            sym (goes_on second-of (shown x ∷ (map shown xs ++ rest)) 0 low (shown x) second (omega arith) refl refl (leb-true low second went.0) (ltb-true second (2 ^ 31) went.1))
+            ∙ ap (λ n. rising n (map second-of (map shown xs ++ rest))) (sym went.2) ∙ more.2 rest,
       )
 
-  pub tested : (items : List X) (sorted all : Bool) → IsAllAdjacentAnswer (λ a b r. r ≡ earlier a b) items sorted → all ≡ list_all in_time items
-      → (sorted && all) ≡ rising 0 (map second_of items)
-  tested items true true order bound = sym (rises_by 0 items (λ d h. omega arith) order (sym bound))
-  tested items true false order late =
-      elim (cases_Bool (rising 0 (map second_of items))) [
-        | inl e ↦ late ∙ timely 0 items e ∙ sym e
-        | inr e ↦ sym e
-      ]
-  tested items false all (k, h, f) bound =
-      elim (cases_Bool (rising 0 (map second_of items))) [
-        | inl e ↦ absurd (unordered items k h f e)
-        | inr e ↦ sym e
-      ]
+  module _ {S : Type 0} {steps : S → Option A → S → Type 0} {s : S} {items : List X} (given : YieldsList steps shown s items)
+      (xs : List A) (q : F) (a : ℕ) (turns : FoldsTo {P = F × ℕ} (Turn g) (f, 0) xs (q, a)) where
+    behind : (t : S) → Yields steps s xs t → rising 0 (map second-of items) ≡ rising a (drop (length xs) (map second-of items))
+    behind t y =
+        ap (λ l. rising 0 (map second-of l)) (sym (take-append-drop (length xs) items))
+        ∙ ap (λ l. rising 0 (map second-of (l ++ drop (length xs) items))) (sym (YieldsList-so_far given xs t y))
+        ∙ (gone xs 0 q a (omega arith) turns).2 (drop (length xs) items)
+        ∙ ap (rising a) (sym (drop-map second-of (length xs) items))
+
+    tried_all : (E : Type 0) (r : Option ℕ) (o : Option A) (u : S) → YieldsThen steps s xs o u
+        → MatchOption o (r ≡ Some a) (λ x. (v : Option ℕ) × (h : F) × (e : E) × Called g q (a, (x, tt)) v h × (v ≡ None) × (r ≡ None))
+        → is_some r ≡ rising 0 (map second-of items)
+    tried_all E r None u y h =
+        let all = YieldsList-end given xs y.0 y.1 None u refl y.2 in
+        ap is_some h ∙ sym (behind y.0 y.1 ∙ ends second-of items (length xs) a (omega (arith, all.1)))
+    tried_all E r (Some x) u y h =
+        let second = second-of (shown x) in
+        let at = YieldsList-turn given xs y.0 y.1 (Some x) u x refl y.2 in
+        let before = gone xs 0 q a (omega arith) turns in
+        let call = calls a x h.0 h.1 before.1 (subst (λ p. Called g p (a, (x, tt)) h.0 h.1) before.0 h.3) in
+        ap is_some h.5
+        ∙ sym (behind y.0 y.1
+        ∙ elim (broke_off (leb a second) (ltb second (2 ^ 31)) (second + 1) (sym call.1 ∙ h.4)) [
+          | inl low ↦ stops_below second-of items (length xs) a (shown x) second at.0 at.1 refl (leb-false a second low)
+          | inr late ↦ stops_beyond second-of items (length xs) a (shown x) second at.0 at.1 refl (ltb-false second (2 ^ 31) late)
+        ])
+
+  -- the fold answers a second where the test holds
+  pub tried : {S : Type 0} (E : Type 0) {steps : S → Option A → S → Type 0} {s : S} {items : List X} → YieldsList steps shown s items → (r : Option ℕ) (u : S)
+      → (xs : List A) × (o : Option A) × (q : F) × (a : ℕ) × YieldsThen steps s xs o u × FoldsTo {P = F × ℕ} (Turn g) (f, 0) xs (q, a)
+      × MatchOption o (r ≡ Some a) (λ x. (v : Option ℕ) × (h : F) × (e : E) × Called g q (a, (x, tt)) v h × (v ≡ None) × (r ≡ None))
+      → is_some r ≡ rising 0 (map second-of items)
+  tried E given r u d = tried_all given d.0 d.2 d.3 d.5 E r d.1 u d.4 d.6
 
 pub rising_law : RisingLaw
 rising_law seconds =

@@ -17,6 +17,15 @@ pub(crate) trait Dated {
 pub(crate) fn rises<T: Dated>(items: &[T]) -> bool
     ensures { result ≡ rising 0 (map T.Dated.dated items.now) }
 {
-    items.is_sorted_by(|a, b| a.second() < b.second())
-        && items.iter().all(|item| item.second() < END)
+    items
+        .iter()
+        .try_fold(0, |low, item| {
+            let second = item.second();
+            if low <= second && second < END {
+                Some(second + 1)
+            } else {
+                None
+            }
+        })
+        .is_some()
 }
