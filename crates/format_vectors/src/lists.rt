@@ -2,19 +2,22 @@
 use crate::buffer::{FILL, staying};
 use crate::cases::Case;
 use anyhow::{anyhow, ensure};
-use digest::Hash;
+use digest::{Digest, Hash};
 use roots::{Entry, Holder, PrintedList, Roots, print_list};
-use std::alloc::{AllocError, Global};
+use std::array;
 use wire::Report;
+
+// The most entries of a list.
+const MOST: usize = 1800;
 
 fn second_at(list: &PrintedList, place: usize) -> Option<u32> {
     list.entry(place).map(|entry| entry.second)
 }
 
 // The seconds that are looked up: the list's ends and middle, and seconds that it cannot have.
-fn asked(heap: Global, list: &PrintedList) -> Result<Vec<u32>, AllocError> {
+fn asked(list: &PrintedList) -> [Option<u32>; 7] {
     let last = second_at(list, list.count().saturating_sub(1));
-    let seconds = [
+    [
         Some(0),
         second_at(list, 0),
         second_at(list, list.count() / 2),
@@ -22,8 +25,7 @@ fn asked(heap: Global, list: &PrintedList) -> Result<Vec<u32>, AllocError> {
         last.and_then(|last| last.checked_add(1)),
         Some(0x7fff_ffff),
         Some(u32::MAX),
-    ];
-    seconds.into_iter().flatten().collect(heap)
+    ]
 }
 
 // Looks up a second.
@@ -36,10 +38,15 @@ fn show_root<R: Roots>(rt: &HostRuntime, roots: &R, second: u32) -> anyhow::Resu
 }
 
 // Looks up each of these seconds once.
-fn show_roots<R: Roots>(rt: &HostRuntime, roots: &R, seconds: &[u32]) -> anyhow::Result<()> {
+fn show_roots<R: Roots>(
+    rt: &HostRuntime,
+    roots: &R,
+    seconds: &[Option<u32>],
+) -> anyhow::Result<()> {
     for (place, second) in seconds.iter().enumerate() {
-        if !seconds[..place].contains(second) {
-            show_root(rt, roots, *second)?;
+        match second {
+            Some(asked) if !seconds[..place].contains(second) => show_root(rt, roots, *asked)?,
+            _ => {}
         }
     }
     Ok(())
@@ -47,11 +54,14 @@ fn show_roots<R: Roots>(rt: &HostRuntime, roots: &R, seconds: &[u32]) -> anyhow:
 
 // Prints the list again, and tells how many bytes behind it stay.
 fn show_printed<H: Hash>(rt: &HostRuntime, list: &PrintedList, bytes: &[u8]) -> anyhow::Result<()> {
-    let entries: Vec<Entry> = (0..list.count())
-        .filter_map(|place| list.entry(place))
-        .collect(rt.alloc())?;
+    let blank = Entry {
+        second: 0,
+        root: Digest::default(),
+    };
+    let entries: [Entry; MOST] = array::from_fn(|place| list.entry(place).unwrap_or(blank));
+    let entries = &entries[..list.count().min(MOST)];
     let mut buffer = [FILL; 65000];
-    let length = print_list::<H>(entries.as_slice(), &mut buffer).map_err(|_| anyhow!(
+    let length = print_list::<H>(entries, &mut buffer).map_err(|_| anyhow!(
         "a list that was loaded is not printed"
     ))?;
     ensure!(
@@ -81,6 +91,6 @@ pub(crate) fn list_case<'a, H: Hash>(
     let list = holder.list();
     let count = list.count();
     println!(rt; "{name}: loaded {count}")?;
-    show_roots(rt, holder, asked(rt.alloc(), &list)?.as_slice())?;
+    show_roots(rt, holder, &asked(&list))?;
     show_printed::<H>(rt, &list, case.bytes)
 }
