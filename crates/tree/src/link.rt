@@ -33,7 +33,7 @@ impl Side {
     }
 }
 
-// By hand, as a derived `==` has no clause of its own to cite.
+// By hand: the lemma `side_test` speaks of this test, and with a derive there is no body of `==` that an edit could turn.
 impl PartialEq for Side {
     ghost eq = { on side_number ◌==◌ };
 
