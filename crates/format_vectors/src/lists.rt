@@ -4,7 +4,6 @@ use crate::cases::Case;
 use anyhow::{anyhow, ensure};
 use digest::{Digest, Hash};
 use roots::{Entry, Holder, PrintedList, Roots, print_list};
-use std::array;
 use wire::Report;
 
 // The most entries of a list.
@@ -58,7 +57,10 @@ fn show_printed<H: Hash>(rt: &HostRuntime, list: &PrintedList, bytes: &[u8]) -> 
         second: 0,
         root: Digest::default(),
     };
-    let entries: [Entry; MOST] = array::from_fn(|place| list.entry(place).unwrap_or(blank));
+    let mut entries = [blank; MOST];
+    for (place, entry) in entries.iter_mut().enumerate() {
+        *entry = list.entry(place).unwrap_or(blank);
+    }
     let entries = &entries[..list.count().min(MOST)];
     let mut buffer = [FILL; 65000];
     let length = print_list::<H>(entries, &mut buffer).map_err(|_| anyhow!(
