@@ -17,15 +17,13 @@ pub(crate) trait Dated {
 pub(crate) fn rises<T: Dated>(items: &[T]) -> bool
     ensures { result ≡ rising 0 (map T.Dated.dated items.now) }
 {
-    items
-        .iter()
-        .try_fold(0, |low, item| {
-            let second = item.second();
-            if low <= second && second < END {
-                Some(second + 1)
-            } else {
-                None
-            }
-        })
-        .is_some()
+    let mut low = 0;
+    for item in items {
+        let second = item.second();
+        if second < low || second >= END {
+            return false;
+        }
+        low = second + 1;
+    }
+    true
 }
