@@ -46,3 +46,8 @@ module _ {N : Type 0} where
   some_root join [] r h e = absurd (omega arith)
   some_root join (x ∷ xs) None h e = let z : ◌≡◌ {A = ℕ} 0 1 = cc in absurd (omega arith)
   some_root join (x ∷ xs) (Some y) h e = refl
+
+  -- the root of a range, its ends told by other numbers that are equal
+  pub root_same : (join : N → N → N) (row : List N) (r : Option N) {low end : ℕ} (first behind : ℕ)
+      → root join (between low end row) ≡ r → low ≡ first → end ≡ behind → root join (between first behind row) ≡ r
+  root_same join row r first behind is low_is end_is = cc

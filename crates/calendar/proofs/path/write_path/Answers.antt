@@ -2,7 +2,7 @@ use Rattle.std.proofs.Common.{ℕ, ◌+◌, ap, sym, ◌∙◌, arith}
 use Rattle.tree.specs.Answers.{path_over}
 use Rattle.tree.specs.Trees.{path}
 use Rattle.tree.proofs.Ways.{writing_none, writing_next, writing_more, writing_all, path_is_upward, link_is}
-use Rattle.calendar.proofs.Rows.{published_there}
+use Rattle.calendar.proofs.Rows.{published_there, root_same}
 use Rattle.calendar.proofs.path.write_path.Goals as goal
 
 pub loop-at-init : goal.loop-at-init
@@ -24,9 +24,13 @@ link_to-requires g c =
 
 pub loop-at-preserved : goal.loop-at-preserved
 loop-at-preserved g c =
-    let next = writing_next c.loop-at.invariant _ c.in-Some.sibling c.next.new.self c.in-Some.ensures.steps in
-    writing_more c.loop-at.invariant _ c.in-Some.sibling c.next.new.self c.in-Some.ensures.steps _
-    (λ d. link_is g.J.Joining.joined (g.R.Row.row c.args.row.now) d c.in-Some.sibling c.link_to.result next.0 (omega (arith, next.1, c.requires.there.2)) c.link_to.ensures.side c.link_to.ensures.below)
+    let join = g.J.Joining.joined in
+    let row = g.R.Row.row c.args.row.now in
+    let sibling = c.in-Some.sibling in
+    let next = writing_next c.loop-at.invariant _ sibling c.next.new.self c.in-Some.ensures.steps in
+    writing_more c.loop-at.invariant _ sibling c.next.new.self c.in-Some.ensures.steps _
+    (λ d. link_is join row d sibling c.link_to.result next.0 (omega (arith, next.1, c.requires.there.2)) c.link_to.ensures.side
+        (root_same join row _ sibling.low sibling.end c.link_to.ensures.below (omega (arith, next.0, next.1)) (omega (arith, next.0, next.1))))
 
 pub returns : goal.returns
 returns g c = writing_all c.loop-at.invariant c.in-None.ensures.steps (g.R.Row.row c.args.row.now) (omega (arith, c.requires.there.2))
