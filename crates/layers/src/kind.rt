@@ -32,7 +32,7 @@ pub trait Kind {
     ghost lowering: { Self → (List ℕ → Digest) → ℕ → Lowering };
 
     // Commits below what goes down in the place of the list of a second. The kind makes it in room of its own, no wider than
-    // what can go down, so that a tall stack takes little.
+    // what can go down, so that a tall stack takes less.
     fn send<P: Pile>(
         &self,
         second: u32,
