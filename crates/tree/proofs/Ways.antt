@@ -29,6 +29,11 @@ use Rattle.tree.proofs.ShapeLaws.{shape_none, shape_left, shape_right}
 abbrev pub sibling : Side → ℕ → ℕ → Sibling
 sibling side low end = record { side = side; low = low; end = end }
 
+-- a first sibling, its places told by other numbers that are equal
+pub sibling_same : {side : Side} {first behind : ℕ} {all rest : List Sibling} (low end : ℕ)
+    → all ≡ sibling side low end ∷ rest → low ≡ first → end ≡ behind → all ≡ sibling side first behind ∷ rest
+sibling_same low end is low_is end_is = cc
+
 none_under : (n low i : ℕ) → n < 2 → siblings_under (tree n) low i ≡ []
 unfolding tree grown
 none_under zero low i h = refl

@@ -30,7 +30,7 @@ loop-at-preserved g c =
     let next = writing_next c.loop-at.invariant _ sibling c.next.new.self c.in-Some.ensures.steps in
     writing_more c.loop-at.invariant _ sibling c.next.new.self c.in-Some.ensures.steps _
     (λ d. link_is join row d sibling c.link_to.result next.0 (omega (arith, next.1, c.requires.there.2)) c.link_to.ensures.side
-        (root_same join row _ sibling.low sibling.end c.link_to.ensures.below (omega (arith, next.0, next.1)) (omega (arith, next.0, next.1))))
+    (root_same join row _ sibling.low sibling.end c.link_to.ensures.below (omega (arith, next.0, next.1)) (omega (arith, next.0, next.1))))
 
 pub returns : goal.returns
 returns g c = writing_all c.loop-at.invariant c.in-None.ensures.steps (g.R.Row.row c.args.row.now) (omega (arith, c.requires.there.2))

@@ -1,6 +1,6 @@
 use Rattle.std.proofs.Common.{◌+◌, ◌<◌, length, ap, arith, rules}
 use Rattle.tree.specs.Trees.{siblings}
-use Rattle.tree.proofs.Ways.{siblings_none, siblings_left, siblings_right}
+use Rattle.tree.proofs.Ways.{siblings_none, siblings_left, siblings_right, sibling_same}
 use Rattle.tree.proofs.descent.SiblingsIterator.next.Goals as goal
 
 pub returns-in_err-middle-clause-steps : goal.returns-in_err-middle-clause-steps
@@ -13,7 +13,8 @@ pub returns-then-self-middle-clause-steps : goal.returns-then-self-middle-clause
 returns-then-self-middle-clause-steps c =
     let way = c.args.self.now in
     let parts = c.in_ok-middle.ensures.parts in
-    siblings_left way.low c.in_ok-middle.field-0 way.end way.place parts.0 parts.1 c.if-self-middle.true
+    sibling_same (way.low + c.in_ok-middle.field-0) way.end
+    (siblings_left way.low c.in_ok-middle.field-0 way.end way.place parts.0 parts.1 c.if-self-middle.true) (omega (arith, parts)) (omega (arith, parts))
 
 pub returns-then-self-middle-clause-goes : goal.returns-then-self-middle-clause-goes
 returns-then-self-middle-clause-goes c =
@@ -27,7 +28,8 @@ pub returns-else-self-middle-clause-steps : goal.returns-else-self-middle-clause
 returns-else-self-middle-clause-steps c =
     let way = c.args.self.now in
     let parts = c.in_ok-middle.ensures.parts in
-    siblings_right way.low c.in_ok-middle.field-0 way.end way.place parts.0 parts.1 c.if-self-middle.false
+    sibling_same way.low (way.low + c.in_ok-middle.field-0)
+    (siblings_right way.low c.in_ok-middle.field-0 way.end way.place parts.0 parts.1 c.if-self-middle.false) (omega (arith, parts)) (omega (arith, parts))
 
 pub returns-else-self-middle-clause-goes : goal.returns-else-self-middle-clause-goes
 returns-else-self-middle-clause-goes c =
