@@ -106,13 +106,18 @@ impl<P: Pile> Stack<'_, P> {
     }
 }
 
-// Runs the rounds of a stack, whose layers are named from the top down.
-fn rounds<P: Pile + Drop>(
+// Makes a stack, whose layers are named from the top down, and runs its rounds. Not inlined: each layer holds its list of
+// 8 KiB, and so no two stacks stand on the program's stack at once.
+#[inline(never)]
+fn rounds<P: Pile + Drop, F: FnOnce() -> P>(
     rt: &HostRuntime,
     hash: &str,
     layers: &str,
-    pile: P,
-) -> anyhow::Result<()> {
+    make: F,
+) -> anyhow::Result<()>
+    requires { F.IsAlwaysCallable make }
+{
+    let pile = make();
     let label = format!(in rt.alloc(); "{hash} {layers}")?;
     println!(rt;
         "{label}: most {}, span {}, deepest {}",
@@ -144,19 +149,46 @@ fn masked<P: Pile>(below: P, first: u8) -> Masking<P> {
 // Stacks over a head; all are lent the same memory, one after another.
 fn stacks<H: Hash>(rt: &HostRuntime, hash: &str) -> anyhow::Result<()> {
     let mut row = [Digest::default(); SECONDS];
-    rounds(rt, hash, "head", Head::<H>::over(&mut row))?;
-    let one = Grouping::over(Head::<H>::over(&mut row));
-    rounds(rt, hash, "grouping", one)?;
-    let two = twice(Head::<H>::over(&mut row));
-    rounds(rt, hash, "grouping grouping", two)?;
-    let three = Grouping::over(twice(Head::<H>::over(&mut row)));
-    rounds(rt, hash, "grouping grouping grouping", three)?;
-    let three = masked(twice(Head::<H>::over(&mut row)), UPPER);
-    rounds(rt, hash, "masking grouping grouping", three)?;
-    let four = Grouping::over(masked(twice(Head::<H>::over(&mut row)), UPPER));
-    rounds(rt, hash, "grouping masking grouping grouping", four)?;
-    let lower = masked(Grouping::over(Head::<H>::over(&mut row)), LOWER);
-    rounds(rt, hash, "masking masking grouping", masked(lower, UPPER))
+    rounds(rt, hash, "head", || Head::<H>::over(&mut row))?;
+    rounds(
+        rt,
+        hash,
+        "grouping",
+        || Grouping::over(Head::<H>::over(&mut row)),
+    )?;
+    rounds(
+        rt,
+        hash,
+        "grouping grouping",
+        || twice(Head::<H>::over(&mut row)),
+    )?;
+    rounds(
+        rt,
+        hash,
+        "grouping grouping grouping",
+        || Grouping::over(twice(Head::<H>::over(&mut row))),
+    )?;
+    rounds(
+        rt,
+        hash,
+        "masking grouping grouping",
+        || masked(twice(Head::<H>::over(&mut row)), UPPER),
+    )?;
+    rounds(
+        rt,
+        hash,
+        "grouping masking grouping grouping",
+        || Grouping::over(masked(twice(Head::<H>::over(&mut row)), UPPER)),
+    )?;
+    rounds(
+        rt,
+        hash,
+        "masking masking grouping",
+        || masked(
+            masked(Grouping::over(Head::<H>::over(&mut row)), LOWER),
+            UPPER,
+        ),
+    )
 }
 
 // Each program names the hashes that it runs.

@@ -109,7 +109,7 @@ fn fill<P: Pile>(heap: Global, pile: &mut P, leaves: &[Digest]) -> anyhow::Resul
 #[derive(Drop)]
 struct Committed<'a, P> {
     rt: &'a HostRuntime,
-    pile: P,
+    pile: &'a P,
     calendar: Vec<Digest>,
 }
 
@@ -163,18 +163,27 @@ impl<P: Pile> Committed<'_, P> {
     }
 }
 
-// Tokens and printed root of one round.
-fn serve<P: Pile + Drop>(
+// Tokens and printed root of one round, whose pile it makes. Not inlined: each layer holds its list of 8 KiB, and so the
+// piles of both hashes do not stand on the program's stack at once.
+#[inline(never)]
+fn serve<P: Pile + Drop, F: FnOnce() -> P>(
     rt: &HostRuntime,
-    mut pile: P,
+    make: F,
     entries: &Halves<Entry>,
     names: &Names,
-) -> anyhow::Result<()> {
+) -> anyhow::Result<()>
+    requires { F.IsAlwaysCallable make }
+{
+    let mut pile = make();
     let leaves = [entries.port.leaf, entries.starboard.leaf];
     let calendar = fill(rt.alloc(), &mut pile, &leaves)?;
     let digest = calendar.last().context("the calendar lacks a second")?;
     println!(rt; "  second {SECOND} {digest}")?;
-    let round = Committed { rt, pile, calendar };
+    let round = Committed {
+        rt,
+        pile: &pile,
+        calendar,
+    };
     round.issue(0, &entries.port, names.tokens.port)?;
     round.issue(1, &entries.starboard, names.tokens.starboard)?;
     round.publish(names.roots)
@@ -191,9 +200,12 @@ fn round<H: Hash>(rt: &HostRuntime, records: &Halves<&[u8]>, names: &Names) -> a
         return Ok(0);
     };
     let mut row = [Digest::default(); SECONDS];
-    let grouping = Grouping::over(Head::<H>::over(&mut row));
-    let pile = Masking::over(grouping, Seed::from(SEED));
-    serve(rt, pile, &Halves { port, starboard }, names)?;
+    serve(
+        rt,
+        || Masking::over(Grouping::over(Head::<H>::over(&mut row)), Seed::from(SEED)),
+        &Halves { port, starboard },
+        names,
+    )?;
     Ok(2)
 }
 
